@@ -1,0 +1,6 @@
+pub mod Lists
+pub mod Assignments
+pub mod Truth
+pub mod Models
+pub mod Backbones
+pub mod Flips

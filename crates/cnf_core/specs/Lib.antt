@@ -1,0 +1,6 @@
+pub mod Literals
+pub mod Spelling
+pub mod Formulas
+pub mod Laws
+pub mod Example
+pub mod Counted
