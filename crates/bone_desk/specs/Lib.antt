@@ -1,0 +1,4 @@
+pub mod Told
+pub mod Gives
+pub mod Memory
+pub mod Real

@@ -1,0 +1,54 @@
+//! The counts of failures, one for each act.
+ghost use Rattle.std.specs.Prelude.{◌≡◌, ◌<◌};
+ghost use Rattle.bone_desk.specs.Told.{act_index, feed_index, port_index, Rose, CountsOnly};
+ghost use Rattle.bone_desk.specs.Real.{counts_told};
+
+use crate::{Act, Feed, Port};
+
+/// How many acts there are.
+pub(crate) const ACTS: usize = 16;
+
+fn feed_place(feed: Feed) -> usize
+    ensures place { result ≡ feed_index feed }
+    ensures within { result < 4 }
+{
+    match feed {
+        Feed::Text => 0,
+        Feed::Answer => 1,
+        Feed::Proof => 2,
+        Feed::Witness => 3,
+    }
+}
+
+fn port_place(port: Port) -> usize
+    ensures place { result ≡ port_index port }
+    ensures within { result < 4 }
+{
+    match port {
+        Port::Answer => 0,
+        Port::Proof => 1,
+        Port::Witness => 2,
+        Port::Notes => 3,
+    }
+}
+
+fn act_place(act: Act) -> usize
+    ensures place { result ≡ act_index act }
+    ensures within { result < 16 }
+{
+    match act {
+        Act::OpenFeed(feed) => feed_place(feed),
+        Act::OpenPort(port) => 4 + port_place(port),
+        Act::Read(feed) => 8 + feed_place(feed),
+        Act::Write(port) => 12 + port_place(port),
+    }
+}
+
+/// Counts a failure of an act, and leaves the other counts as they are.
+pub(crate) fn count_fault(faults: &mut [u64; ACTS], act: Act)
+    ensures only { CountsOnly act (counts_told faults.old) (counts_told faults.new) }
+    ensures cause { Rose act (counts_told faults.old) (counts_told faults.new) }
+{
+    let place = act_place(act);
+    faults[place] = faults[place].saturating_add(1);
+}

@@ -1,0 +1,17 @@
+//! The outside world as the product sees it: feeds to read, ports to write, and what each call may
+//! change.
+#![tactic(auto)]
+
+mod counts;
+mod desk;
+mod memory;
+mod real;
+mod write;
+
+pub use desk::{Act, Desk, Failed, Feed, Port};
+pub use memory::{DeskMemory, MemDesk};
+pub use real::RealDesk;
+pub use write::{GATHERED, PortBuffer, write_all};
+
+#[cfg(test)]
+mod tests;
