@@ -1,0 +1,185 @@
+-- The course of lines leads to the formula that the lines make, or to their first fault.
+use Rattle.std.proofs.Common.{◌≡◌, ℕ, ◌^◌, Bool, true, false, if◌then◌else◌, List, [], ◌∷◌, refl}
+use Rattle.std.proofs.Common.{ap, ◌∙◌}
+use Rattle.std.specs.Prelude.{fold, Result, Ok, Err, codes, bytes_eq}
+use Rattle.cnf_core.specs.Formulas.{Cnf}
+use Rattle.dimacs_reader.specs.declared.fault.BadKind.{BadKind}
+use Rattle.dimacs_reader.specs.declared.fault.BadKind.TheVariants.{NoHeader, BadHeader}
+use Rattle.dimacs_reader.specs.declared.fault.Fault.{Fault}
+use Rattle.dimacs_reader.specs.declared.stage.Course.{Course}
+use Rattle.dimacs_reader.specs.declared.stage.LineKind.TheVariants.{Fresh, Comment, Inside}
+use Rattle.dimacs_reader.specs.declared.stage.Stage.{Stage}
+use Rattle.dimacs_reader.specs.declared.stage.Stage.TheVariants.{Before, AfterWord, AfterFormat, AfterVars, AfterCount, Clauses}
+use Rattle.dimacs_reader.specs.declared.stage.Stage.TheVariants.{Done, Failed}
+use Rattle.dimacs_reader.specs.Pieces.{Piece, Line}
+use Rattle.dimacs_reader.specs.Numbers.{number_of_digits}
+use Rattle.dimacs_reader.specs.Reading.{fault_at, ◌>>=◌, bytes_begin_with, Header}
+use Rattle.dimacs_reader.specs.Reading.{counted, word, limited, count, header_end, Partial, no_clauses, token, tokens}
+use Rattle.dimacs_reader.specs.Reading.{ended, clause_lines, after_header, formula_of}
+use Rattle.dimacs_reader.specs.Scans.{stage_of, word_stage, outcome_at, after_token, after_end}
+use Rattle.dimacs_reader.proofs.Courses.{run_line, idle_tokens}
+
+-- at the start of a line
+abbrev pub fresh : Stage → Course
+fresh s = record { line = Fresh; stage = s }
+
+-- in a line that isn't blank and no comment
+abbrev pub inside : Stage → Course
+inside s = record { line = Inside; stage = s }
+
+-- in a comment
+abbrev pub comment_at : Stage → Course
+comment_at s = record { line = Comment; stage = s }
+
+-- what the lines give, where the text ends at this place
+abbrev pub outcome_of_lines : ℕ → Stage → List Line → Result Cnf Fault
+outcome_of_lines end s ls = outcome_at end (fold run_line (fresh s) ls).stage
+
+-- what they give behind the other tokens of a line that ends at e
+abbrev pub outcome_of_rest : ℕ → ℕ → Course → List Piece → List Line → Result Cnf Fault
+outcome_of_rest end e c ts ls = outcome_at end (fold run_line (after_end (fold after_token c ts) e) ls).stage
+
+-- after a fault, and behind the clauses, all is passed over
+failed_stays : (end : ℕ) (f : Fault) (ls : List Line) → outcome_of_lines end (Failed f) ls ≡ Err f
+failed_stays end f [] = refl
+failed_stays end f (l ∷ ls) =
+    ap (λ (c : Course). outcome_at end (fold run_line (after_end c l.end) ls).stage) (idle_tokens (fresh (Failed f)) l.tokens refl)
+    ∙ failed_stays end f ls
+
+done_stays : (end : ℕ) (F : Cnf) (ls : List Line) → outcome_of_lines end (Done F) ls ≡ Ok F
+done_stays end F [] = refl
+done_stays end F (l ∷ ls) =
+    ap (λ (c : Course). outcome_at end (fold run_line (after_end c l.end) ls).stage) (idle_tokens (fresh (Done F)) l.tokens refl)
+    ∙ done_stays end F ls
+
+failed_line : (end e : ℕ) (f : Fault) (ts : List Piece) (ls : List Line)
+    → outcome_of_rest end e (inside (Failed f)) ts ls ≡ Err f
+failed_line end e f ts ls =
+    ap (λ (c : Course). outcome_at end (fold run_line (after_end c e) ls).stage) (idle_tokens (inside (Failed f)) ts refl)
+    ∙ failed_stays end f ls
+
+done_line : (end e : ℕ) (F : Cnf) (ts : List Piece) (ls : List Line)
+    → outcome_of_rest end e (inside (Done F)) ts ls ≡ Ok F
+done_line end e F ts ls =
+    ap (λ (c : Course). outcome_at end (fold run_line (after_end c e) ls).stage) (idle_tokens (inside (Done F)) ts refl)
+    ∙ done_stays end F ls
+
+-- the tokens of a line among the clauses
+run_tokens : (n : ℕ) (r : Result Partial Fault) (ts : List Piece)
+    → fold after_token (inside (stage_of (Clauses n) r)) ts ≡ inside (stage_of (Clauses n) (r >>= λ b. tokens n b ts))
+run_tokens n (Err f) ts = idle_tokens (inside (Failed f)) ts refl
+run_tokens n (Ok b) [] = refl
+run_tokens n (Ok b) (t ∷ ts) = run_tokens n (token n b t) ts
+
+run_result : (end e n : ℕ) (r : Result Partial Fault) (ls : List Line)
+    → ((b : Partial) → outcome_of_lines end (Clauses n b) ls ≡ clause_lines n end ls b)
+    → outcome_at end (fold run_line (after_end (inside (stage_of (Clauses n) r)) e) ls).stage ≡ (r >>= clause_lines n end ls)
+run_result end e n (Ok b) ls others = others b
+run_result end e n (Err f) ls others = failed_stays end f ls
+
+run_ended : (end e : ℕ) (r : Result Cnf Fault) (ts : List Piece) (ls : List Line)
+    → outcome_of_rest end e (inside (stage_of Done r)) ts ls ≡ r
+run_ended end e (Ok F) ts ls = done_line end e F ts ls
+run_ended end e (Err f) ts ls = failed_line end e f ts ls
+
+-- a line that says something, by its first token
+run_first : (comment percent : Bool) (end e n place : ℕ) (b : Partial) (r : Result Partial Fault) (ts : List Piece) (ls : List Line)
+    → ((c : Partial) → outcome_of_lines end (Clauses n c) ls ≡ clause_lines n end ls c)
+    → outcome_of_rest end e
+    (if comment then comment_at (Clauses n b)
+    else inside (if percent then stage_of Done (ended n place b) else stage_of (Clauses n) r)) ts ls
+    ≡ (if comment then clause_lines n end ls b
+    else (if percent then ended n place b else (r >>= λ c. tokens n c ts) >>= clause_lines n end ls))
+run_first true percent end e n place b r ts ls others =
+    ap (λ (c : Course). outcome_at end (fold run_line (after_end c e) ls).stage) (idle_tokens (comment_at (Clauses n b)) ts refl)
+    ∙ others b
+run_first false true end e n place b r ts ls others = run_ended end e (ended n place b) ts ls
+run_first false false end e n place b r ts ls others =
+    ap (λ (c : Course). outcome_at end (fold run_line (after_end c e) ls).stage) (run_tokens n r ts)
+    ∙ run_result end e n (r >>= λ c. tokens n c ts) ls others
+
+run_clause_line : (end n : ℕ) (b : Partial) (ts : List Piece) (e : ℕ) (ls : List Line)
+    → ((c : Partial) → outcome_of_lines end (Clauses n c) ls ≡ clause_lines n end ls c)
+    → outcome_of_rest end e (fresh (Clauses n b)) ts ls ≡ clause_lines n end (record { tokens = ts; end = e } ∷ ls) b
+run_clause_line end n b [] e ls others = others b
+run_clause_line end n b (t ∷ ts) e ls others =
+    run_first (bytes_begin_with 99 t.bytes) (bytes_begin_with 37 t.bytes) end e n t.place b (token n b t) ts ls others
+
+run_clause_lines : (end n : ℕ) (ls : List Line) (b : Partial) → outcome_of_lines end (Clauses n b) ls ≡ clause_lines n end ls b
+run_clause_lines end n [] b = refl
+run_clause_lines end n (l ∷ ls) b = run_clause_line end n b l.tokens l.end ls (run_clause_lines end n ls)
+
+-- the header, from its last token back
+run_header_end : (end e v n : ℕ) (ts : List Piece) (ls : List Line)
+    → outcome_of_rest end e (inside (AfterCount n (no_clauses v))) ts ls
+    ≡ (header_end (record { vars = v; clauses = n }) ts >>= after_header end ls)
+run_header_end end e v n [] ls = run_clause_lines end n ls (no_clauses v)
+run_header_end end e v n (t ∷ ts) ls = failed_line end e (record { kind = BadHeader; place = t.place }) ts ls
+
+abbrev from_clauses : ℕ → ℕ → List Piece → Result Header Fault
+from_clauses e v ts = count (2 ^ 21) e ts >>= λ c. header_end (record { vars = v; clauses = c.number }) c.rest
+
+run_clause_count : (end e v : ℕ) (r : Result ℕ Fault) (ts : List Piece) (ls : List Line)
+    → outcome_of_rest end e (inside (stage_of (λ n. AfterCount n (no_clauses v)) r)) ts ls
+    ≡ (((r >>= counted ts) >>= λ c. header_end (record { vars = v; clauses = c.number }) c.rest)
+    >>= after_header end ls)
+run_clause_count end e v (Ok n) ts ls = run_header_end end e v n ts ls
+run_clause_count end e v (Err f) ts ls = failed_line end e f ts ls
+
+run_clauses : (end e v : ℕ) (ts : List Piece) (ls : List Line)
+    → outcome_of_rest end e (inside (AfterVars (no_clauses v))) ts ls ≡ (from_clauses e v ts >>= after_header end ls)
+run_clauses end e v [] ls = failed_stays end (record { kind = BadHeader; place = e }) ls
+run_clauses end e v (t ∷ ts) ls = run_clause_count end e v (limited (2 ^ 21) t.place (number_of_digits t.bytes)) ts ls
+
+abbrev from_vars : ℕ → List Piece → Result Header Fault
+from_vars e ts = count (2 ^ 20) e ts >>= λ v. from_clauses e v.number v.rest
+
+run_var_count : (end e : ℕ) (r : Result ℕ Fault) (ts : List Piece) (ls : List Line)
+    → outcome_of_rest end e (inside (stage_of (λ v. AfterVars (no_clauses v)) r)) ts ls
+    ≡ (((r >>= counted ts) >>= λ v. from_clauses e v.number v.rest) >>= after_header end ls)
+run_var_count end e (Ok v) ts ls = run_clauses end e v ts ls
+run_var_count end e (Err f) ts ls = failed_line end e f ts ls
+
+run_vars : (end e : ℕ) (ts : List Piece) (ls : List Line)
+    → outcome_of_rest end e (inside AfterFormat) ts ls ≡ (from_vars e ts >>= after_header end ls)
+run_vars end e [] ls = failed_stays end (record { kind = BadHeader; place = e }) ls
+run_vars end e (t ∷ ts) ls = run_var_count end e (limited (2 ^ 20) t.place (number_of_digits t.bytes)) ts ls
+
+abbrev from_format : ℕ → List Piece → Result Header Fault
+from_format e ts = word BadHeader (codes "cnf") e ts >>= from_vars e
+
+run_format_word : (fits : Bool) (end e : ℕ) (kind : BadKind) (place : ℕ) (ts : List Piece) (ls : List Line)
+    → outcome_of_rest end e (inside (word_stage fits AfterFormat kind place)) ts ls
+    ≡ (((if fits then Ok ts else fault_at kind place) >>= from_vars e) >>= after_header end ls)
+run_format_word true end e kind place ts ls = run_vars end e ts ls
+run_format_word false end e kind place ts ls = failed_line end e (record { kind = kind; place = place }) ts ls
+
+run_format : (end e : ℕ) (ts : List Piece) (ls : List Line)
+    → outcome_of_rest end e (inside AfterWord) ts ls ≡ (from_format e ts >>= after_header end ls)
+run_format end e [] ls = failed_stays end (record { kind = BadHeader; place = e }) ls
+run_format end e (t ∷ ts) ls =
+    run_format_word (bytes_eq t.bytes (codes "cnf")) end e BadHeader t.place ts ls
+
+-- the line of the header, or one before it
+run_first_word : (comment fits : Bool) (end e : ℕ) (kind : BadKind) (place : ℕ) (ts : List Piece) (ls : List Line)
+    → outcome_of_lines end Before ls ≡ formula_of end ls
+    → outcome_of_rest end e
+    (if comment then comment_at Before else inside (word_stage fits AfterWord kind place)) ts ls
+    ≡ (if comment then formula_of end ls
+    else ((if fits then Ok ts else fault_at kind place) >>= from_format e) >>= after_header end ls)
+run_first_word true fits end e kind place ts ls others =
+    ap (λ (c : Course). outcome_at end (fold run_line (after_end c e) ls).stage) (idle_tokens (comment_at Before) ts refl)
+    ∙ others
+run_first_word false true end e kind place ts ls others = run_format end e ts ls
+run_first_word false false end e kind place ts ls others = failed_line end e (record { kind = kind; place = place }) ts ls
+
+run_header_line : (end : ℕ) (ts : List Piece) (e : ℕ) (ls : List Line) → outcome_of_lines end Before ls ≡ formula_of end ls
+    → outcome_of_rest end e (fresh Before) ts ls ≡ formula_of end (record { tokens = ts; end = e } ∷ ls)
+run_header_line end [] e ls others = others
+run_header_line end (t ∷ ts) e ls others =
+    run_first_word (bytes_begin_with 99 t.bytes) (bytes_eq t.bytes (codes "p")) end e NoHeader t.place ts ls others
+
+-- the course of lines leads to what they make
+pub outcome_by_lines : (end : ℕ) (ls : List Line) → outcome_at end (fold run_line (fresh Before) ls).stage ≡ formula_of end ls
+outcome_by_lines end [] = refl
+outcome_by_lines end (l ∷ ls) = run_header_line end l.tokens l.end ls (outcome_by_lines end ls)

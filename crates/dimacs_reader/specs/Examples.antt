@@ -1,0 +1,35 @@
+-- Texts, and what each means.
+use Rattle.std.specs.Prelude.{◌≡◌, List, [], Ok, codes, ℕ}
+use Rattle.cnf_core.specs.Example.{chain}
+use Rattle.dimacs_reader.specs.declared.fault.BadKind.TheVariants.{NoHeader, BadHeader, BadNumber}
+use Rattle.dimacs_reader.specs.declared.fault.BadKind.TheVariants.{LiteralRange, OverLimit}
+use Rattle.dimacs_reader.specs.declared.fault.BadKind.TheVariants.{TooManyClauses, TooFewClauses}
+use Rattle.dimacs_reader.specs.declared.fault.BadKind.TheVariants.{Unended}
+use Rattle.dimacs_reader.specs.Reading.{reading_of, fault_at}
+
+-- three clauses over three variables
+abbrev pub chain_text : List ℕ
+chain_text = codes "p cnf 3 3\n1 0\n-1 2 0\n2 3 0\n"
+
+-- the same with comments and spaces, and with what is written behind a formula in some collections
+abbrev pub loose_chain_text : List ℕ
+loose_chain_text =
+    codes "c a sample\np cnf 3  3 \n 1 0\nc between\n -1 2 0\n 2 3 0\n%\n0\n\n"
+
+-- the same with a carriage return before each line feed
+abbrev pub chain_text_with_returns : List ℕ
+chain_text_with_returns = codes "p cnf 3 3\r\n1 0\r\n-1 2 0\r\n2 3 0\r\n"
+
+pub record TextsAreWorked : Type 0 where
+  pub plain : reading_of chain_text ≡ Ok chain
+  pub loose : reading_of loose_chain_text ≡ Ok chain
+  pub with_returns : reading_of chain_text_with_returns ≡ Ok chain
+  pub open_clause : reading_of (codes "p cnf 3 3\n1 0\n-1 2 0\n2 3\n") ≡ fault_at Unended 25
+  pub no_such_variable : reading_of (codes "p cnf 2 1\n3 0\n") ≡ fault_at LiteralRange 10
+  pub clause_too_many :
+      reading_of (codes "p cnf 2 2\n1 0\n2 0\n1 2 0\n") ≡ fault_at TooManyClauses 18
+  pub clause_too_few : reading_of (codes "p cnf 2 2\n1 2 0\n") ≡ fault_at TooFewClauses 16
+  pub empty : reading_of [] ≡ fault_at NoHeader 0
+  pub short_header : reading_of (codes "p cnf 3\n") ≡ fault_at BadHeader 7
+  pub no_number : reading_of (codes "p cnf 2 1\n1 x 0\n") ≡ fault_at BadNumber 12
+  pub many_variables : reading_of (codes "p cnf 1048577 0\n") ≡ fault_at OverLimit 6

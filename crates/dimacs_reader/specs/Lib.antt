@@ -1,0 +1,9 @@
+pub mod Pieces
+pub mod Numbers
+pub mod Reading
+pub mod Rooms
+pub mod Examples
+pub mod Scans
+pub mod PlainText
+pub mod Writings
+pub mod Feeds

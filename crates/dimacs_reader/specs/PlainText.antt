@@ -1,0 +1,26 @@
+-- The one plain spelling of a formula, and the texts that are one.
+use Rattle.std.specs.Prelude.{◌≡◌, ℕ, ◌≤◌, List, ◌++◌, length, codes, decimal, flat_map}
+use Rattle.cnf_core.specs.Literals.{Literals}
+use Rattle.cnf_core.specs.Formulas.{Cnf, IsFormula}
+use Rattle.cnf_core.specs.Spelling.{literal_text}
+
+-- the first line: the number of variables, and that of clauses
+abbrev pub header_line : Cnf → List ℕ
+header_line F =
+    codes "p cnf " ++ decimal F.vars ++ codes " " ++ decimal (length F.clauses) ++ codes "\n"
+
+-- the line of a clause: each literal with a space behind it, and then 0
+abbrev pub clause_line : Literals → List ℕ
+clause_line c = flat_map (λ l. literal_text l ++ codes " ") c ++ codes "0\n"
+
+-- the first line, and then a line for each clause
+abbrev pub plain_text : Cnf → List ℕ
+plain_text F = header_line F ++ flat_map clause_line F.clauses
+
+-- the text is the plain spelling of the formula, and both are small
+pub record IsPlain (text : List ℕ) (F : Cnf) : Type 0 where
+  pub spelled : text ≡ plain_text F
+  pub short : length text ≤ 65536
+  pub few_vars : F.vars ≤ 12
+  pub few_clauses : length F.clauses ≤ 1000
+  pub formula : IsFormula F

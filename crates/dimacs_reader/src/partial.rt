@@ -1,0 +1,166 @@
+ghost use Rattle.std.specs.Prelude.{◌≡◌, ◌+◌, ◌^◌, ◌<◌, ◌≤◌, [], ◌∷◌, ◌++◌, length, IfOk};
+ghost use Rattle.cnf_core.specs.Literals.{IsWithin};
+ghost use Rattle.cnf_core.specs.Formulas.{with_clause};
+ghost use Rattle.dimacs_reader.specs.Reading.{partial_of, no_clauses, ended};
+
+use crate::{BadKind, Fault};
+use cnf_core::{Clause, Formula, Lit, NoMemory};
+use std::alloc::Global;
+use std::marker::Model;
+
+/// How many clauses a header promises, at most 2^21.
+#[derive(Clone, Copy, Debug)]
+pub struct ClauseCount {
+    count: u32,
+}
+
+impl Model for ClauseCount {
+    ghost use Rattle.std.specs.Prelude.{ℕ, ◌^◌, ◌≤◌};
+
+    ghost Value = { ℕ };
+
+    ghost view = { λ c. c.count };
+
+    ghost invariant = { λ c. c.count ≤ 2 ^ 21 };
+
+    ghost inverse = { λ n. record { count = n } };
+}
+
+impl ClauseCount {
+    /// So many clauses.
+    pub fn new(count: u32) -> ClauseCount
+        requires { count ≤ 2 ^ 21 }
+        ensures { result ≡ count }
+    {
+        ClauseCount { count }
+    }
+
+    /// The number.
+    pub fn get(self) -> usize
+        ensures value { result ≡ self }
+        ensures limit { result ≤ 2 ^ 21 }
+    {
+        self.count as usize
+    }
+}
+
+/// What was read behind the header: a formula of the clauses that are ended, the literals of the
+/// one that isn't, and how many literals there are in all.
+#[derive(Debug, Drop)]
+pub struct Partial {
+    formula: Formula,
+    clause: Vec<Lit>,
+    literals: usize,
+}
+
+impl Model for Partial {
+    ghost use Rattle.dimacs_reader.specs.Reading.{Partial, partial_of};
+    ghost use Rattle.dimacs_reader.specs.Rooms.{IsPartial};
+
+    ghost Value = { Partial };
+
+    ghost view = { λ p. partial_of p.formula p.clause.items p.literals };
+
+    ghost invariant = { λ p. IsPartial p.formula p.clause.items p.literals };
+}
+
+impl Partial {
+    /// Nothing yet, over so many variables, at most 2^20.
+    pub fn new(alloc: Global, vars: u32) -> Partial
+        requires { vars ≤ 2 ^ 20 }
+        ensures { result ≡ no_clauses vars }
+    {
+        Partial {
+            formula: Formula::new(alloc, vars),
+            clause: Vec::new(alloc),
+            literals: 0,
+        }
+    }
+
+    /// How many clauses are ended.
+    pub fn clause_count(&self) -> usize
+        ensures { result ≡ length self.now.formula.clauses }
+    {
+        self.formula.clauses().len()
+    }
+
+    /// How many variables there are.
+    pub fn vars(&self) -> u32
+        ensures value { result ≡ self.now.formula.vars }
+        ensures limit { result ≤ 2 ^ 20 }
+    {
+        self.formula.vars()
+    }
+
+    /// How many literals there are in all.
+    pub fn literals(&self) -> usize
+        ensures { result ≡ self.now.literals }
+    {
+        self.literals
+    }
+
+    /// One literal more in the open clause.
+    pub fn with_literal(self, lit: Lit) -> Result<Partial, NoMemory>
+        requires within { IsWithin self.formula.vars lit }
+        requires room { self.literals < 2 ^ 23 }
+        ensures { IfOk result (λ p.
+            p ≡ partial_of self.formula (self.clause ++ lit ∷ []) (self.literals + 1)) }
+    {
+        let Partial {
+            formula,
+            mut clause,
+            literals,
+        } = self;
+        clause.push(lit)?;
+        Ok(Partial {
+            formula,
+            clause,
+            literals: literals + 1,
+        })
+    }
+
+    /// The open clause ended.
+    pub fn with_end(self, alloc: Global) -> Result<Partial, NoMemory>
+        requires { length self.formula.clauses < 2 ^ 21 }
+        ensures { IfOk result (λ p.
+            p ≡ partial_of (with_clause self.formula self.clause) [] self.literals) }
+    {
+        let Partial {
+            mut formula,
+            mut clause,
+            literals,
+        } = self;
+        let lits = Vec::from_slice(alloc, &clause)?;
+        formula.push(Clause { lits })?;
+        clause.clear();
+        Ok(Partial {
+            formula,
+            clause,
+            literals,
+        })
+    }
+
+    /// The formula, where the clauses end at this place, or what is wrong there.
+    pub fn ended(self, count: ClauseCount, place: u64) -> Result<Formula, Fault>
+        ensures { result ≡ ended count place self }
+    {
+        let Partial {
+            formula,
+            clause,
+            ..
+        } = self;
+        if !clause.is_empty() {
+            return Err(Fault {
+                kind: BadKind::Unended,
+                place,
+            });
+        }
+        if formula.clauses().len() < count.get() {
+            return Err(Fault {
+                kind: BadKind::TooFewClauses,
+                place,
+            });
+        }
+        Ok(formula)
+    }
+}
