@@ -1,0 +1,3 @@
+mod Lines
+mod Pieces
+pub mod Verdicts
