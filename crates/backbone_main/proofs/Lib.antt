@@ -1,0 +1,3 @@
+mod Answered
+pub mod Narrowing
+pub mod Numbering
