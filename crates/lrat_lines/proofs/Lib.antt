@@ -1,0 +1,7 @@
+pub mod LiteralSets
+pub mod Entailment
+mod GapLemmas
+mod Pieces
+mod Fronts
+mod TextLines
+pub mod ReadsBack

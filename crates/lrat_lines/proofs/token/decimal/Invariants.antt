@@ -1,0 +1,12 @@
+use Rattle.std.proofs.Common.{◌≡◌, true, take}
+use Rattle.std.specs.List.{list_all}
+use Rattle.std.specs.Char.{is_ascii_digit}
+use Rattle.lrat_lines.specs.Grammar.{digits_value}
+use Rattle.lrat_lines.specs.Steps.{fitting}
+use Rattle.lrat_lines.proofs.token.decimal.Given as goal
+
+-- the bytes so far are digits, and the number is what they write
+abbrev pub invariant-loop-byte : goal.invariant-loop-byte
+invariant-loop-byte l =
+    (l.number ≡ fitting (digits_value (take l.byte-index l.bytes)))
+    × (list_all is_ascii_digit (take l.byte-index l.bytes) ≡ true)

@@ -1,0 +1,11 @@
+pub mod Sets
+pub mod Propagation
+pub mod Proofs
+pub mod Laws
+pub mod Examples
+pub mod Tokens
+pub mod Grammar
+pub mod Printed
+pub mod Steps
+pub mod Writings
+pub mod Gaps

@@ -1,0 +1,83 @@
+ghost use Rattle.std.specs.Prelude.{◌≡◌};
+ghost use Rattle.lrat_lines.specs.declared.line.LineEnd.TheVariants.{Memory};
+
+use cnf_core::Clause;
+use std::alloc::AllocFailed;
+use std::error::Error;
+use std::fmt;
+use std::fmt::{Display, Formatter};
+use std::marker::Model;
+
+/// Numbers of clauses, in order.
+#[derive(Debug, Drop)]
+pub struct Ids {
+    pub ids: Vec<u64>,
+}
+
+impl Model for Ids {
+    ghost use Rattle.std.specs.Prelude.{ℕ, List};
+
+    ghost Value = { List ℕ };
+
+    ghost view = { λ i. i.ids.items };
+}
+
+/// A line of a proof. Clauses are called by their numbers, their ids.
+#[derive(Debug, Drop)]
+pub enum Line {
+    /// A clause is added under an id. The clauses of the hints show, one after another, that it
+    /// follows.
+    Add { id: u64, clause: Clause, hints: Ids },
+    /// Clauses are no longer used. The line's own id has no effect.
+    Delete { id: u64, ids: Ids },
+}
+
+/// The lines of a proof, in order.
+#[derive(Debug, Drop)]
+pub struct Proof {
+    pub lines: Vec<Line>,
+}
+
+impl Model for Proof {
+    ghost use Rattle.std.specs.Prelude.{List};
+    ghost use Rattle.lrat_lines.specs.declared.line.Line.{Line};
+
+    ghost Value = { List Line };
+
+    ghost view = { λ p. p.lines.items };
+}
+
+/// Why a text is no line.
+#[derive(Clone, Copy, Debug, PartialEq, Eq)]
+pub enum LineEnd {
+    /// A token doesn't fit where it stands, or is one too many.
+    BadToken,
+    /// The text is over before the line's last list is ended.
+    NotEnded,
+    /// A hint is negative. Such hints are for resolution on a clause that isn't the line's, which this
+    /// format leaves out.
+    NegativeHint,
+    /// There was no memory.
+    Memory,
+}
+
+impl Display for LineEnd {
+    fn fmt<W: fmt::Write>(&self, f: &mut Formatter<W>) -> fmt::Result {
+        f.write_str(match self {
+            LineEnd::BadToken => "a token doesn't fit",
+            LineEnd::NotEnded => "the line isn't ended",
+            LineEnd::NegativeHint => "a hint is negative",
+            LineEnd::Memory => "out of memory",
+        })
+    }
+}
+
+impl Error for LineEnd {}
+
+impl<T: Drop> From<AllocFailed<T>> for LineEnd {
+    ghost from_gives = { λ _ end. end ≡ Memory };
+
+    fn from(_error: AllocFailed<T>) -> LineEnd {
+        LineEnd::Memory
+    }
+}
