@@ -1,5 +1,6 @@
 pub mod LiteralSets
 pub mod Entailment
+pub mod Progressing
 mod GapLemmas
 mod Pieces
 mod Fronts

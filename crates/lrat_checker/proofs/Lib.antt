@@ -1,0 +1,6 @@
+mod TableLemmas
+mod OpenLemmas
+mod HintLemmas
+mod FindLemmas
+mod UnitLemmas
+mod Standing

@@ -1,0 +1,5 @@
+pub mod Assigned
+pub mod Units
+pub mod Refusals
+pub mod Checking
+pub mod Assumed

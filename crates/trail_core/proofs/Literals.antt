@@ -1,0 +1,34 @@
+-- Packed forms of literals.
+use Rattle.std.proofs.Common.{◌≡◌, ℕ, ◌+◌, ◌*◌, ◌≤◌, ℤ, Bool, true, false, w8, refl, ap, ◌∙◌, arith}
+use Rattle.cnf_core.specs.Literals.{Literal, code_of}
+use Rattle.std.specs.Int.{cast_signed, cast_unsigned}
+use Rattle.trail_core.specs.Trails.{sign_of}
+
+pub code_le : (l : Literal) → code_of l ≤ 2 * l.var + 1
+code_le l =
+    let cases : (v : ℕ) (b : Bool) → code_of (record { var = v; positive = b }) ≤ 2 * v + 1 =
+    λ v b. elim b as (λ p. code_of (record { var = v; positive = p }) ≤ 2 * v + 1) [ true ↦ omega arith | false ↦ omega arith ] in
+    cases l.var l.positive
+
+literal_is : (v u : ℕ) (b : Bool) → v ≡ u → (let l : Literal = record { var = v; positive = b } in l) ≡ record { var = u; positive = b }
+literal_is v u b e = ap (λ n. record { var = n; positive = b }) e
+
+same_parts : (v u : ℕ) (b p : Bool) → code_of (record { var = v; positive = b }) ≡ code_of (record { var = u; positive = p })
+    → (let l : Literal = record { var = v; positive = b } in l) ≡ record { var = u; positive = p }
+same_parts v u true true e = literal_is v u true (omega (arith, e))
+same_parts v u true false e = absurd (omega (arith, e))
+same_parts v u false true e = absurd (omega (arith, e))
+same_parts v u false false e = literal_is v u false (omega (arith, e))
+
+-- a literal is known by its packed form
+pub same_code : (k l : Literal) → code_of k ≡ code_of l → k ≡ l
+same_code k l e = same_parts k.var l.var k.positive l.positive e
+
+-- a sign is written as a byte and read back
+written : (v : ℕ) (b : Bool) → cast_signed w8 (cast_unsigned w8 (sign_of (record { var = v; positive = b })))
+    ≡ sign_of (record { var = v; positive = b })
+written v true = refl
+written v false = refl
+
+pub sign_written : (x : ℤ) (l : Literal) → x ≡ sign_of l → cast_signed w8 (cast_unsigned w8 x) ≡ sign_of l
+sign_written x l is = ap (λ y. cast_signed w8 (cast_unsigned w8 y)) is ∙ written l.var l.positive

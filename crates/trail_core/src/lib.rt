@@ -1,0 +1,13 @@
+//! The trail of a search: which literals were made true, in order, with their levels and reasons.
+//!
+//! Contracts see a [`Trail`] as its list of entries with three numbers (`specs/Trails`). `specs/Tables`
+//! says what it keeps beside them. Only [`Trail::new`] takes memory.
+#![tactic(auto)]
+
+mod entry;
+#[cfg(test)]
+mod tests;
+mod trail;
+
+pub use entry::{Assigned, Reason};
+pub use trail::Trail;

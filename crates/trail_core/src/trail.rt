@@ -1,0 +1,288 @@
+ghost use Rattle.std.specs.Prelude.{◌≡◌, ◌↔◌, ◌+◌, ◌<◌, ◌≤◌, ◌^◌, ℕ, length, slice_index, if◌then◌else◌, IfOk, IfSome, IfNone, MatchOption, IsTrue};
+ghost use Rattle.cnf_core.specs.Literals.{IsWithin, negated};
+ghost use Rattle.trail_core.specs.Trails.{assigned_at, HasLiteral, HasVariable, IsFree, IsTrail, empty_trail, with_entry, with_root, IsBacktracked, last_level, without_last, AreValues, sign_of, IsFirstFree};
+ghost use Rattle.std.specs.Vec.{vec_len};
+ghost use Rattle.trail_core.specs.declared.entry.Reason.TheVariants.{Decision};
+
+use crate::{Assigned, Reason};
+use cnf_core::{Lit, NoMemory};
+use std::alloc::Global;
+use std::marker::Model;
+
+/// The literals that are true, in the order of their coming, with their levels and reasons.
+///
+/// The value of a literal is one read of a table by its packed form; a variable's entry is found by a
+/// table of places.
+#[derive(Debug, Drop)]
+pub struct Trail {
+    entries: Vec<Assigned>,
+    /// Where each variable's entry stands, counted from 1; 0 where it has none.
+    places: Vec<u32>,
+    /// Which packed literals are true.
+    truth: Vec<bool>,
+    /// 1, -1 or 0 per variable.
+    signs: Vec<i8>,
+    gone: u32,
+    level: u32,
+    /// No variable before it is without a value.
+    free: u32,
+    vars: u32,
+}
+
+impl Model for Trail {
+    ghost use Rattle.trail_core.specs.Trails.{TrailState};
+    ghost use Rattle.trail_core.specs.Tables.{IsHeld, state_of};
+    ghost use Rattle.std.specs.Vec.{vec_capacity};
+
+    ghost Value = { TrailState };
+
+    ghost view = { λ t. state_of t.entries.items t.gone t.level t.vars };
+
+    ghost invariant = { λ t.
+        IsHeld (state_of t.entries.items t.gone t.level t.vars) t.places.items t.truth.items
+        t.signs.items t.free (vec_capacity t.entries) };
+}
+
+/// The sign of a literal: 1, and -1 for a negation.
+#[inline(always)]
+fn sign(lit: Lit) -> i8
+    ensures { result ≡ sign_of lit }
+{
+    if lit.positive() { 1 } else { -1 }
+}
+
+/// The level of the last entry, 0 where there is none.
+fn last_level(entries: &Vec<Assigned>) -> u32
+    ensures { result ≡ last_level entries.now.items }
+{
+    match entries.len() {
+        0 => 0,
+        count => entries[count - 1].level,
+    }
+}
+
+impl Trail {
+    /// The trail without entries for the variables 1 to so many, at most 2^20.
+    pub fn new(alloc: Global, vars: u32) -> Result<Trail, NoMemory>
+        requires { vars ≤ 2 ^ 20 }
+        ensures { IfOk result (λ t. t ≡ empty_trail vars) }
+    {
+        let count = vars as usize;
+        Ok(Trail {
+            entries: Vec::with_capacity(alloc, count)?,
+            places: vec![in alloc; 0; count + 1]?,
+            truth: vec![in alloc; false; 2 * count + 2]?,
+            signs: vec![in alloc; 0; count]?,
+            gone: 0,
+            level: 0,
+            free: 1,
+            vars,
+        })
+    }
+
+    /// Opens a level and makes a literal true there. Its variable has no value yet.
+    pub fn decide(&mut self, lit: Lit)
+        requires within { IsWithin self.old.vars lit }
+        requires free { IsFree self.old.entries lit.var }
+        ensures { self.new ≡ with_entry self.old lit (self.old.level + 1) Decision }
+    {
+        self.free = next_free(&self.places, self.free);
+        let level = self.level + 1;
+        self.put(lit, level, Reason::Decision);
+    }
+
+    /// Makes a literal true at the present level. Its variable has no value yet.
+    #[inline(always)]
+    pub fn push(&mut self, lit: Lit, reason: Reason)
+        requires within { IsWithin self.old.vars lit }
+        requires free { IsFree self.old.entries lit.var }
+        ensures { self.new ≡ with_entry self.old lit self.old.level reason }
+    {
+        let level = self.level;
+        self.put(lit, level, reason);
+    }
+
+    /// Makes a literal true at the present level or the next one.
+    #[inline(always)]
+    fn put(&mut self, lit: Lit, level: u32, reason: Reason)
+        requires within { IsWithin self.old.vars lit }
+        requires free { IsFree self.old.entries lit.var }
+        requires level { (self.old.level ≤ level) × (level ≤ self.old.level + 1) }
+        ensures { self.new ≡ with_entry self.old lit level reason }
+    {
+        let var = lit.var() as usize;
+        self.entries.push_reserved(Assigned { lit, level, reason });
+        self.places[var] = self.entries.len() as u32;
+        self.truth[lit.code() as usize] = true;
+        self.signs[var - 1] = sign(lit);
+        self.level = level;
+    }
+
+    /// Sets the reason of a variable of level 0 to a unit clause with this id.
+    pub fn root(&mut self, var: u32, id: u64)
+        requires valued { HasVariable self.old.entries var }
+        requires root { (k : ℕ) → k < length self.old.entries → (assigned_at self.old.entries k).lit.var ≡ var
+            → (assigned_at self.old.entries k).level ≡ 0 }
+        ensures { (k : ℕ) → k < length self.old.entries → (assigned_at self.old.entries k).lit.var ≡ var
+            → self.new ≡ with_root self.old k id }
+    {
+        let place = self.places[var as usize] as usize - 1;
+        self.entries[place].reason = Reason::Unit(id);
+    }
+
+    /// Takes away the entries of the levels above this one, which is at most the present level. No more
+    /// entries count as propagated than are left.
+    pub fn backtrack(&mut self, level: u32)
+        requires { level ≤ self.old.level }
+        ensures { IsBacktracked level self.old self.new }
+    {
+        while self.level > level {
+            self.pop();
+        }
+    }
+
+    /// Takes away the last entry.
+    fn pop(&mut self)
+        requires { 0 < length self.old.entries }
+        ensures back { self.new ≡ without_last self.old }
+        ensures level { self.old.level ≤ self.new.level + 1 }
+    {
+        let count = self.entries.len() - 1;
+        let lit = self.entries[count].lit;
+        self.entries.truncate(count);
+        self.places[lit.var() as usize] = 0;
+        self.truth[lit.code() as usize] = false;
+        self.signs[lit.var() as usize - 1] = 0;
+        self.gone = self.gone.min(count as u32);
+        self.free = self.free.min(lit.var());
+        self.level = last_level(&self.entries);
+    }
+
+    /// How many of the first entries were propagated.
+    pub fn gone(&self) -> u32
+        ensures value { result ≡ self.now.gone }
+        ensures trail { IsTrail self.now }
+    {
+        self.gone
+    }
+
+    /// Sets how many of the first entries were propagated, at most all of them.
+    pub fn set_gone(&mut self, count: u32)
+        requires { count ≤ length self.old.entries }
+        ensures { self.new ≡ record self.old { gone = count } }
+    {
+        self.gone = count;
+    }
+
+    /// Whether the literal is true.
+    #[inline(always)]
+    pub fn is_true(&self, lit: Lit) -> bool
+        requires { IsWithin self.now.vars lit }
+        ensures { IsTrue result ↔ HasLiteral self.now.entries lit }
+    {
+        self.truth[lit.code() as usize]
+    }
+
+    /// The literal's value; none exactly where its variable has none.
+    pub fn value(&self, lit: Lit) -> Option<bool>
+        requires { IsWithin self.now.vars lit }
+        ensures { MatchOption result (IsFree self.now.entries lit.var)
+            (λ b. HasLiteral self.now.entries (if b then lit else negated lit)) }
+    {
+        if self.is_true(lit) {
+            return Some(true);
+        }
+        if self.is_true(lit.negated()) {
+            return Some(false);
+        }
+        None
+    }
+
+    /// Per variable from 1 on, 1 where it is true, -1 where it is false, and 0 where it has no value.
+    pub fn values(&self) -> &[i8]
+        ensures { AreValues self.now.vars self.now.entries result.now }
+    {
+        &self.signs
+    }
+
+    /// The level of a variable's entry. The variable has a value.
+    pub fn level_of(&self, var: u32) -> u32
+        requires { HasVariable self.now.entries var }
+        ensures { (k : ℕ) → k < length self.now.entries → (assigned_at self.now.entries k).lit.var ≡ var
+            → result ≡ (assigned_at self.now.entries k).level }
+    {
+        self.entries[self.places[var as usize] as usize - 1].level
+    }
+
+    /// The reason of a variable's entry. The variable has a value.
+    pub fn reason_of(&self, var: u32) -> Reason
+        requires { HasVariable self.now.entries var }
+        ensures { (k : ℕ) → k < length self.now.entries → (assigned_at self.now.entries k).lit.var ≡ var
+            → result ≡ (assigned_at self.now.entries k).reason }
+    {
+        self.entries[self.places[var as usize] as usize - 1].reason
+    }
+
+    /// The present level: how many decisions are on the trail.
+    pub fn level(&self) -> u32
+        ensures value { result ≡ self.now.level }
+        ensures trail { IsTrail self.now }
+    {
+        self.level
+    }
+
+    /// How many entries there are.
+    pub fn len(&self) -> u32
+        ensures value { result ≡ length self.now.entries }
+        ensures trail { IsTrail self.now }
+    {
+        self.entries.len() as u32
+    }
+
+    /// How many variables the trail was made for.
+    pub fn vars(&self) -> u32
+        ensures value { result ≡ self.now.vars }
+        ensures trail { IsTrail self.now }
+    {
+        self.vars
+    }
+
+    /// The literal of the entry at this place, from 0.
+    #[inline(always)]
+    pub fn lit_at(&self, i: u32) -> Lit
+        requires { i < length self.now.entries }
+        ensures { result ≡ (assigned_at self.now.entries i).lit }
+    {
+        self.entries[i as usize].lit
+    }
+
+    /// The entries, in the order of their coming.
+    pub fn entries(&self) -> &[Assigned]
+        ensures { result.now ≡ self.now.entries }
+    {
+        &self.entries
+    }
+
+    /// The least variable without a value; none exactly where each one has a value.
+    pub fn first_free(&self) -> Option<u32>
+        ensures some { IfSome result (λ v. IsFirstFree self.now v) }
+        ensures none { IfNone result ((u : ℕ) → 0 < u → u ≤ self.now.vars → HasVariable self.now.entries u) }
+    {
+        let free = next_free(&self.places, self.free);
+        if free <= self.vars { Some(free) } else { None }
+    }
+}
+
+/// The first variable from this one on that has no place, or the table's length.
+fn next_free(places: &Vec<u32>, from: u32) -> u32
+    requires { (from ≤ vec_len places.now) × (vec_len places.now < 2 ^ 32) }
+    ensures bounds { (from ≤ result) × (result ≤ vec_len places.now) }
+    ensures blank { result < vec_len places.now → slice_index places.now.items result ≡ 0 }
+    ensures passed { (u : ℕ) → from ≤ u → u < result → 0 < slice_index places.now.items u }
+{
+    let mut var = from;
+    while (var as usize) < places.len() && places[var as usize] != 0 {
+        var += 1;
+    }
+    var
+}
