@@ -4,3 +4,4 @@ pub mod Truth
 pub mod Models
 pub mod Backbones
 pub mod Flips
+pub mod Numerals

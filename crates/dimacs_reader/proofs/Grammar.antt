@@ -12,7 +12,7 @@ use Rattle.dimacs_reader.specs.declared.stage.Stage.{Stage}
 use Rattle.dimacs_reader.specs.declared.stage.Stage.TheVariants.{Before, AfterWord, AfterFormat, AfterVars, AfterCount, Clauses}
 use Rattle.dimacs_reader.specs.declared.stage.Stage.TheVariants.{Done, Failed}
 use Rattle.dimacs_reader.specs.Pieces.{Piece, Line}
-use Rattle.dimacs_reader.specs.Numbers.{number_of_digits}
+use Rattle.cnf_core.specs.Spelling.{number_of_digits}
 use Rattle.dimacs_reader.specs.Reading.{fault_at, ◌>>=◌, bytes_begin_with, Header}
 use Rattle.dimacs_reader.specs.Reading.{counted, word, limited, count, header_end, Partial, no_clauses, token, tokens}
 use Rattle.dimacs_reader.specs.Reading.{ended, clause_lines, after_header, formula_of}

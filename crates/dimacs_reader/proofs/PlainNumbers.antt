@@ -6,10 +6,11 @@ use Rattle.std.specs.Char.{is_ascii_digit}
 use Rattle.std.specs.Int.{IsInRange}
 use Rattle.std.specs.Str.Parse.{AllDigits}
 use Rattle.std.proofs.lemmas.Bool.{ne_eqb}
-use Rattle.std.proofs.lemmas.Fmt.{digits_decimal, digits_value-decimal, decimal_nonempty}
-use Rattle.std.proofs.lemmas.Str.Parse.{IsNumeralModel, numerals_by_value, numerals_by_fold, tells_digits, digit_from_value}
-use Rattle.cnf_core.specs.Spelling.{literal_text}
-use Rattle.dimacs_reader.specs.Numbers.{digits_value, number_of_digits, negative_of, positive_of, literal_of}
+use Rattle.std.proofs.lemmas.Fmt.{digits_decimal, decimal_nonempty}
+use Rattle.std.proofs.lemmas.Str.Parse.{numerals_by_value, tells_digits, digit_from_value}
+use Rattle.cnf_core.specs.Spelling.{literal_text, number_of_digits}
+use Rattle.cnf_core.proofs.Numerals.{number_of_digits-decimal}
+use Rattle.dimacs_reader.specs.Numbers.{negative_of, positive_of, literal_of}
 use Rattle.dimacs_reader.proofs.PlainPieces.{NonePass}
 
 -- the test takes no digit
@@ -36,18 +37,6 @@ NonePass-literal_text test v false spares minus low high =
 pub length-literal_text : (v : ℕ) (sign : Bool) → 0 < v → v ≤ 2 ^ 20 → 0 < length (literal_text (record { var = v; positive = sign }))
 length-literal_text v true low high = decimal_nonempty v (omega arith)
 length-literal_text v false low high = rw (literal_text-negative v low) (omega arith)
-
-own : IsNumeralModel (λ ds. list_all is_ascii_digit ds ≡ true) digits_value
-own = numerals_by_fold _ (search rules) (λ n ds. fold (λ m d. m * 10 + (d - 48)) n ds) (search rules)
-
-number_of_digits_from : (ds : List ℕ) (n : ℕ) → 0 < length ds → list_all is_ascii_digit ds ≡ true → digits_value ds ≡ n
-    → number_of_digits ds ≡ Some n
-number_of_digits_from [] n filled digits value = absurd (omega arith)
-number_of_digits_from (d ∷ ds) n filled digits value = rw digits (ap Some value)
-
-pub number_of_digits-decimal : (n : ℕ) → n < 2 ^ 64 → number_of_digits (decimal n) ≡ Some n
-number_of_digits-decimal n small =
-    number_of_digits_from (decimal n) n (decimal_nonempty n small) (digits_decimal own n small) (digits_value-decimal own n small)
 
 literal_of_digits : (ds : List ℕ) (n : ℕ) → NonePass (λ b. b == 45) ds → number_of_digits ds ≡ Some n
     → literal_of ds ≡ Some (record { var = n; positive = true })

@@ -8,13 +8,13 @@ use Rattle.std.proofs.lemmas.List.Elements.{All-head, All-tail}
 use Rattle.std.proofs.lemmas.List.Sums.{sum_by-cons}
 use Rattle.cnf_core.specs.Literals.{Literal, Literals, IsWithin, AreWithin}
 use Rattle.cnf_core.specs.Formulas.{Cnf, empty_formula, with_clause, literal_count, IsFormula}
-use Rattle.cnf_core.specs.Spelling.{literal_text}
+use Rattle.cnf_core.specs.Spelling.{literal_text, number_of_digits}
+use Rattle.cnf_core.proofs.Numerals.{number_of_digits-decimal}
 use Rattle.dimacs_reader.specs.Pieces.{Piece, Line, is_line_feed, is_blank, pieces, line_of}
-use Rattle.dimacs_reader.specs.Numbers.{number_of_digits}
 use Rattle.dimacs_reader.specs.Reading.{◌>>=◌, bytes_begin_with, begins_with, says_nothing, header, Partial, literal, literal_from, token, tokens, clause_lines, after_header, formula_of, reading_of}
 use Rattle.dimacs_reader.specs.PlainText.{clause_line, plain_text, IsPlain}
 use Rattle.dimacs_reader.proofs.PlainPieces.{NonePass, none_pass, NonePass-append, piece, pieces_cut}
-use Rattle.dimacs_reader.proofs.PlainNumbers.{NonePass-decimal, NonePass-literal_text, length-literal_text, number_of_digits-decimal, literal_of-literal_text}
+use Rattle.dimacs_reader.proofs.PlainNumbers.{NonePass-decimal, NonePass-literal_text, length-literal_text, literal_of-literal_text}
 use Rattle.dimacs_reader.proofs.PlainLines.{words, words_more, words_last}
 
 -- what was read of the clauses

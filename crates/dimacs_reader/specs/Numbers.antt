@@ -1,19 +1,8 @@
 -- The numbers that tokens spell.
-use Rattle.std.specs.Prelude.{ℕ, ◌+◌, ◌-◌, ◌*◌, ◌^◌, ◌==◌, min, true, false, if◌then◌else◌, List}
-use Rattle.std.specs.Prelude.{[], ◌∷◌, Option, Some, None, fold, option_and_then}
-use Rattle.std.specs.List.{list_all}
-use Rattle.std.specs.Char.{is_ascii_digit}
+use Rattle.std.specs.Prelude.{ℕ, ◌-◌, ◌^◌, ◌==◌, min, true, false, if◌then◌else◌, List}
+use Rattle.std.specs.Prelude.{[], ◌∷◌, Option, Some, None, option_and_then}
 use Rattle.cnf_core.specs.Literals.{Literal}
-
--- the number that decimal digits write
-abbrev pub digits_value : List ℕ → ℕ
-digits_value ds = fold (λ n d. n * 10 + (d - 48)) 0 ds
-
--- the number that one or more digits write, with leading zeros too; other bytes write none
-abbrev pub number_of_digits : List ℕ → Option ℕ
-number_of_digits [] = None
-number_of_digits (d ∷ ds) =
-    if list_all is_ascii_digit (d ∷ ds) then Some (digits_value (d ∷ ds)) else None
+use Rattle.cnf_core.specs.Spelling.{number_of_digits}
 
 -- the negative literal of a variable, which isn't 0
 abbrev pub negative_of : ℕ → Option Literal

@@ -11,7 +11,8 @@ use Rattle.dimacs_reader.specs.declared.fault.BadKind.TheVariants.{LiteralRange,
 use Rattle.dimacs_reader.specs.declared.fault.BadKind.TheVariants.{TooFewClauses, Unended}
 use Rattle.dimacs_reader.specs.declared.fault.BadKind.TheVariants.{OverLimit}
 use Rattle.dimacs_reader.specs.Pieces.{Piece, Line, lines}
-use Rattle.dimacs_reader.specs.Numbers.{number_of_digits, literal_of}
+use Rattle.cnf_core.specs.Spelling.{number_of_digits}
+use Rattle.dimacs_reader.specs.Numbers.{literal_of}
 
 -- what is wrong with a text, and the place of the byte where it is
 abbrev pub fault_at : {A : Type 0} → BadKind → ℕ → Result A Fault

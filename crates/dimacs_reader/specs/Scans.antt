@@ -16,7 +16,7 @@ use Rattle.dimacs_reader.specs.declared.stage.Stage.TheVariants.{AfterVars, Afte
 use Rattle.dimacs_reader.specs.declared.stage.Stage.TheVariants.{Done, Failed}
 use Rattle.dimacs_reader.specs.declared.stage.Course.{Course}
 use Rattle.dimacs_reader.specs.Pieces.{Piece, is_line_feed, is_blank}
-use Rattle.dimacs_reader.specs.Numbers.{number_of_digits}
+use Rattle.cnf_core.specs.Spelling.{number_of_digits}
 use Rattle.dimacs_reader.specs.Reading.{no_clauses, limited, token, ended, fault_at}
 use Rattle.dimacs_reader.specs.Reading.{bytes_begin_with, reading_of}
 

@@ -1,5 +1,6 @@
 ghost use Rattle.std.specs.Prelude.{◌≡◌, ◌^◌, ◌<◌, ◌-◌, option_map, bytes_eq};
-ghost use Rattle.dimacs_reader.specs.Numbers.{capped, number_of_digits, literal_of};
+ghost use Rattle.cnf_core.specs.Spelling.{number_of_digits};
+ghost use Rattle.dimacs_reader.specs.Numbers.{capped, literal_of};
 ghost use Rattle.dimacs_reader.specs.Reading.{limited, bytes_begin_with};
 ghost use Rattle.dimacs_reader.specs.Writings.{written_of};
 

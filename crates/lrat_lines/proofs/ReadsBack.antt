@@ -6,17 +6,18 @@ use Rattle.std.specs.Char.{is_ascii_digit}
 use Rattle.std.specs.Int.{IsInRange}
 use Rattle.std.specs.Str.Parse.{AllDigits}
 use Rattle.std.proofs.lemmas.Bool.{ne_eqb, lt-ltb, le-leb, cases_Bool}
-use Rattle.std.proofs.lemmas.Fmt.{digits_decimal, digits_value-decimal, decimal_nonempty}
-use Rattle.std.proofs.lemmas.Str.Parse.{IsNumeralModel, numerals_by_value, numerals_by_fold, tells_digits, digit_from_value}
+use Rattle.std.proofs.lemmas.Fmt.{digits_decimal, decimal_nonempty}
+use Rattle.std.proofs.lemmas.Str.Parse.{numerals_by_value, tells_digits, digit_from_value}
 use Rattle.std.proofs.lemmas.List.Elements.{All-head, All-tail}
 use Rattle.std.proofs.lemmas.Slice.Eq.{bytes_eq-Decides}
 use Rattle.cnf_core.specs.Literals.{Literal, Literals, IsWithin, AreWithin}
-use Rattle.cnf_core.specs.Spelling.{literal_text}
+use Rattle.cnf_core.specs.Spelling.{literal_text, number_of_digits}
+use Rattle.cnf_core.proofs.Numerals.{number_of_digits-decimal}
 use Rattle.lrat_lines.specs.declared.line.Line.{Line}
 use Rattle.lrat_lines.specs.declared.line.Line.TheVariants.{Add, Delete}
 use Rattle.lrat_lines.specs.declared.line.LineEnd.{LineEnd}
 use Rattle.lrat_lines.specs.Tokens.{is_gap, before_gap, behind_gaps, is_filled, tokens}
-use Rattle.lrat_lines.specs.Grammar.{◌>>=◌, digits_value, number_of_digits, id_from, id_item, hint_item, literal_from, literal_item, Listed, listed, listed_by, with_element, own_id, ended, addition, deletion, behind_id, line_of_tokens, line_of}
+use Rattle.lrat_lines.specs.Grammar.{◌>>=◌, id_from, id_item, hint_item, literal_from, literal_item, Listed, listed, listed_by, with_element, own_id, ended, addition, deletion, behind_id, line_of_tokens, line_of}
 use Rattle.lrat_lines.specs.Printed.{number_bytes, literal_bytes, numbers_bytes, literals_bytes, line_bytes, IsId, IsPrintable, IsWide, IsInMemory}
 use Rattle.lrat_lines.specs.Laws.{PrintedReadsBack}
 
@@ -73,18 +74,6 @@ digits_are_word (d ∷ ds) digits =
 decimal_is_word : (n : ℕ) → n < 2 ^ 64 → IsWord (decimal n)
 decimal_is_word n small = digits_are_word (decimal n) (digits_decimal (numerals_by_value _ tells_digits) n small)
 
-own : IsNumeralModel (λ ds. list_all is_ascii_digit ds ≡ true) digits_value
-own = numerals_by_fold _ (search rules) (λ n ds. fold (λ m d. m * 10 + (d - 48)) n ds) (search rules)
-
-number_from : (ds : List ℕ) (n : ℕ) → 0 < length ds → list_all is_ascii_digit ds ≡ true → digits_value ds ≡ n
-    → number_of_digits ds ≡ Some n
-number_from [] n filled digits value = absurd (omega arith)
-number_from (d ∷ ds) n filled digits value = rw digits (ap Some value)
-
-number_of_decimal : (n : ℕ) → n < 2 ^ 64 → number_of_digits (decimal n) ≡ Some n
-number_of_decimal n small =
-    number_from (decimal n) n (decimal_nonempty n small) (digits_decimal own n small) (digits_value-decimal own n small)
-
 -- digits begin with no minus sign
 record BeginsUnsigned (ds : List ℕ) : Type 0 where
   head : ℕ
@@ -107,7 +96,7 @@ id_of_number zero some small = absurd (omega arith)
 id_of_number (suc n) some small = rw (lt-ltb (suc n) (2 ^ 64) small)
 
 id_item-decimal : (n : ℕ) → IsId n → IsWide n → id_item (decimal n) ≡ Ok (Some n)
-id_item-decimal n some small = ap id_from (number_of_decimal n small) ∙ id_of_number n some small
+id_item-decimal n some small = ap id_from (number_of_digits-decimal n small) ∙ id_of_number n some small
 
 hint_item-unsigned : (ds : List ℕ) → BeginsUnsigned ds → hint_item ds ≡ id_item ds
 hint_item-unsigned ds begins =
@@ -148,14 +137,14 @@ signed_reads true v low high = record {
   word = decimal_is_word v (omega arith);
   filled = decimal_nonempty v (omega arith);
   item = literal_item-unsigned (decimal v) (decimal_unsigned v (omega arith))
-      ∙ ap (literal_from true) (number_of_decimal v (omega arith))
+      ∙ ap (literal_from true) (number_of_digits-decimal v (omega arith))
       ∙ literal_of_number true v low high;
 }
 signed_reads false v low high = record {
   word = rw (literal_text-negative v low) (refl, decimal_is_word v (omega arith));
   filled = rw (literal_text-negative v low) (omega arith);
   item = ap literal_item (literal_text-negative v low)
-      ∙ ap (literal_from false) (number_of_decimal v (omega arith))
+      ∙ ap (literal_from false) (number_of_digits-decimal v (omega arith))
       ∙ literal_of_number false v low high;
 }
 

@@ -1,8 +1,7 @@
 -- What the text of a line means: a line of a proof, or why it is none.
-use Rattle.std.specs.Prelude.{ℕ, zero, suc, ◌+◌, ◌-◌, ◌*◌, ◌^◌, ◌==◌, nat_lt, nat_le, Bool, true, false, if◌then◌else◌, List, [], ◌∷◌, fold, Option, Some, None, Result, Ok, Err, bytes_eq, codes}
-use Rattle.std.specs.List.{list_all}
-use Rattle.std.specs.Char.{is_ascii_digit}
+use Rattle.std.specs.Prelude.{ℕ, zero, suc, ◌+◌, ◌-◌, ◌*◌, ◌^◌, ◌==◌, nat_lt, nat_le, Bool, true, false, if◌then◌else◌, List, [], ◌∷◌, Option, Some, None, Result, Ok, Err, bytes_eq, codes}
 use Rattle.cnf_core.specs.Literals.{Literal, Literals}
+use Rattle.cnf_core.specs.Spelling.{number_of_digits}
 use Rattle.lrat_lines.specs.declared.line.Line.{Line}
 use Rattle.lrat_lines.specs.declared.line.Line.TheVariants.{Add, Delete}
 use Rattle.lrat_lines.specs.declared.line.LineEnd.{LineEnd}
@@ -14,16 +13,6 @@ infixl 10 ◌>>=◌
 abbrev pub ◌>>=◌ : {A B : Type 0} → Result A LineEnd → (A → Result B LineEnd) → Result B LineEnd
 Ok x >>= f = f x
 Err e >>= f = Err e
-
--- the number that decimal digits write
-abbrev pub digits_value : List ℕ → ℕ
-digits_value ds = fold (λ n d. n * 10 + (d - 48)) 0 ds
-
--- the number that one or more digits write, with leading zeros too; other bytes write none
-abbrev pub number_of_digits : List ℕ → Option ℕ
-number_of_digits [] = None
-number_of_digits (d ∷ ds) =
-    if list_all is_ascii_digit (d ∷ ds) then Some (digits_value (d ∷ ds)) else None
 
 -- A token of a list is one more element, or ends the list (None), or doesn't fit.
 

@@ -1,7 +1,8 @@
 use Rattle.std.proofs.Common.{◌≡◌, true, take}
 use Rattle.std.specs.List.{list_all}
 use Rattle.std.specs.Char.{is_ascii_digit}
-use Rattle.dimacs_reader.specs.Numbers.{digits_value, capped}
+use Rattle.cnf_core.specs.Spelling.{digits_value}
+use Rattle.dimacs_reader.specs.Numbers.{capped}
 use Rattle.dimacs_reader.proofs.number.decimal.Given as goal
 
 -- the bytes so far are digits, and the number is what they write

@@ -1,7 +1,7 @@
 use Rattle.std.proofs.Common.{◌≡◌, true, take}
 use Rattle.std.specs.List.{list_all}
 use Rattle.std.specs.Char.{is_ascii_digit}
-use Rattle.lrat_lines.specs.Grammar.{digits_value}
+use Rattle.cnf_core.specs.Spelling.{digits_value}
 use Rattle.lrat_lines.specs.Steps.{fitting}
 use Rattle.lrat_lines.proofs.token.decimal.Given as goal
 
