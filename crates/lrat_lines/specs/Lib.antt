@@ -1,5 +1,6 @@
 pub mod Sets
 pub mod Propagation
+pub mod Tight
 pub mod Proofs
 pub mod Laws
 pub mod Examples
