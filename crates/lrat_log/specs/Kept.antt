@@ -1,0 +1,49 @@
+-- What a log keeps: each entry follows from the formula and the entries before it, learnt clauses are
+-- fresh with tight hints, and clocks never fall.
+use Rattle.std.specs.Prelude.{◌≡◌, ℕ, ◌+◌, ◌<◌, ◌≤◌, Bool, not, if◌then◌else◌, IsTrue, List, length, take, All, slice_index_or}
+use Rattle.cnf_core.specs.Literals.{Literals, AreWithin}
+use Rattle.cnf_core.specs.Formulas.{Cnf, Entails}
+use Rattle.lrat_lines.specs.Propagation.{IsRup}
+use Rattle.lrat_lines.specs.Tight.{IsTight}
+use Rattle.lrat_log.specs.Entries.{Entry, Recorded, HasLengthOf, is_learnt, is_import, learnt_count, id_after, known_after, is_query_used}
+use Rattle.lrat_log.specs.Fresh.{IsFresh}
+
+-- the hint is the id of a clause of the formula or of an entry before this id
+pub record IsHint (id hint : ℕ) : Type 0 where
+  pub low : 0 < hint
+  pub high : hint < id
+
+-- a clause may be written after these entries with these hints
+pub record IsShown (F : Cnf) (before : List Entry) (hints : List ℕ) (c : Literals) : Type 0 where
+  pub within : AreWithin F.vars c
+  pub hints_before : All (IsHint (id_after F before)) hints
+  pub proved : IsRup (known_after F before) hints c
+
+-- the entry may stand after these
+pub record IsNext (F : Cnf) (before : List Entry) (e : Entry) : Type 0 where
+  pub size : HasLengthOf e.kind e.literals
+  pub within : IsTrue (not (is_import e.kind)) → AreWithin F.vars e.literals
+  pub hints_before : All (IsHint (id_after F before)) e.hints
+  pub proved : IsTrue (not (is_import e.kind)) → IsRup (known_after F before) e.hints e.literals
+  pub fresh : IsTrue (is_learnt e.kind) → IsFresh F before e.query e.literals
+  pub tight : IsTrue (is_learnt e.kind) → IsTight (known_after F before) e.hints e.literals
+  pub imported : IsTrue (is_import e.kind) → All (Entails F) e.literals
+  pub later : All (λ b. b.clock ≤ e.clock) before
+
+-- each entry may stand after those before it
+abbrev pub EachNext : Cnf → List Entry → Type 0
+EachNext F es = (k : ℕ) (d : Entry) → k < length es → IsNext F (take k es) (slice_index_or es k d)
+
+-- what every log keeps
+pub record IsLog (L : Recorded) : Type 0 where
+  pub each_next : EachNext L.formula L.entries
+  pub queries : All (λ e. e.query ≤ L.query) L.entries
+  pub few_queries : L.query ≤ length L.entries
+  pub clocks : All (λ e. e.clock ≤ L.clock) L.entries
+
+-- and what is counted beside the entries
+pub record IsCounted (L : Recorded) (used : Bool) (learnt : ℕ) : Type 0 where
+  pub log : IsLog L
+  pub is_used : used ≡ is_query_used L
+  pub room : L.query + (if used then 1 else 0) ≤ length L.entries
+  pub count : learnt ≡ learnt_count L.entries
