@@ -1,10 +1,10 @@
 -- The bytes of a text as they come.
-use Rattle.std.proofs.Common.{ℕ, ◌+◌, ◌<◌, ◌≤◌, List, [], ◌++◌, length, arith, length-append}
+use Rattle.std.proofs.Common.{◌≡◌, ℕ, ◌+◌, ◌-◌, ◌^◌, ◌≤◌, List, [], ◌++◌, length, Option, Some, refl, arith, length-append}
 use Rattle.bone_desk.specs.Told.{Told}
 use Rattle.bone_desk.specs.declared.desk.Feed.TheVariants.{Text}
 use Rattle.bone_desk.proofs.Steps.{took_none, took_more, reads_none, reads_more}
-use Rattle.dimacs_reader.specs.declared.read.Front.{Front}
-use Rattle.dimacs_reader.specs.Feeds.{Came, IsFrontOf}
+use Rattle.dimacs_reader.specs.Feeds.{Came, IsScanOf}
+use Rattle.dimacs_reader.specs.Scans.{Scanned, Stands, byte_count, fresh_scan}
 
 pub came_none : (t : Told) → Came t t []
 came_none t = record { took = took_none Text t; only = reads_none Text t }
@@ -13,16 +13,32 @@ pub came_more : {a b c : Told} (xs ys : List ℕ) → Came a b xs → Came b c y
 came_more {a} {b} {c} xs ys x y =
     record { took = took_more Text xs ys a b c x.took y.took; only = reads_more x.only y.only }
 
--- the text so far, of which a read brings at least one byte
-pub record Collected (old now : Told) (front : Front) (reads : ℕ) (text : List ℕ) : Type 0 where
+-- the scan stands for the text that came so far, and there is room for so many bytes more
+pub record Collected (old now : Told) (scan : Option Scanned) (room : ℕ) (text : List ℕ) : Type 0 where
   pub came : Came old now text
-  pub kept : IsFrontOf front text
-  pub many : reads ≤ length text
+  pub stands : Stands scan text
+  pub count : byte_count scan ≡ length text
+  pub limit : length text + room ≡ 2 ^ 27
 
--- one read more
-pub collected_more : {old now new : Told} {front longer : Front} {reads : ℕ} (text piece : List ℕ)
-    → Collected old now front reads text → Came now new piece → 0 < length piece → IsFrontOf longer (text ++ piece)
-    → Collected old new longer (reads + 1) (text ++ piece)
-collected_more {reads = n} text piece so_far came some kept =
-    let count : n + 1 ≤ length (text ++ piece) = omega (arith, so_far.many, some, length-append text piece) in
-    record { came = came_more text piece so_far.came came; kept = kept; many = count }
+pub collected_none : (t : Told) → Collected t t (Some fresh_scan) (2 ^ 27) []
+collected_none t = record { came = came_none t; stands = refl; count = refl; limit = omega arith }
+
+-- one read more, of so many bytes
+pub collected_more : {old now new : Told} {scan longer : Option Scanned} {room k : ℕ} (text piece : List ℕ)
+    → Collected old now scan room text → Came now new piece → length piece ≡ k → k ≤ room
+    → Stands longer (text ++ piece) → byte_count longer ≡ byte_count scan + length piece
+    → Collected old new longer (room - k) (text ++ piece)
+collected_more {room = r} {k = k} text piece so_far came size fits stands count =
+    let total = length-append text piece in
+    record {
+      came = came_more text piece so_far.came came;
+      stands = stands;
+      count = omega (arith, so_far.count, count, total);
+      limit = omega (arith, so_far.limit, size, fits, total);
+    }
+
+-- a scan of the whole text, after a read that brings nothing
+pub scanned_whole : {old now : Told} {scan : Option Scanned} {room : ℕ} (text : List ℕ)
+    → Collected old now scan room text → IsScanOf scan text
+scanned_whole text so_far =
+    record { stands = so_far.stands; count = so_far.count; limit = omega (arith, so_far.limit) }

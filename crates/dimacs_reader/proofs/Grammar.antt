@@ -6,17 +6,18 @@ use Rattle.cnf_core.specs.Formulas.{Cnf}
 use Rattle.dimacs_reader.specs.declared.fault.BadKind.{BadKind}
 use Rattle.dimacs_reader.specs.declared.fault.BadKind.TheVariants.{NoHeader, BadHeader}
 use Rattle.dimacs_reader.specs.declared.fault.Fault.{Fault}
-use Rattle.dimacs_reader.specs.declared.stage.Course.{Course}
-use Rattle.dimacs_reader.specs.declared.stage.LineKind.TheVariants.{Fresh, Comment, Inside}
-use Rattle.dimacs_reader.specs.declared.stage.Stage.{Stage}
-use Rattle.dimacs_reader.specs.declared.stage.Stage.TheVariants.{Before, AfterWord, AfterFormat, AfterVars, AfterCount, Clauses}
-use Rattle.dimacs_reader.specs.declared.stage.Stage.TheVariants.{Done, Failed}
+use Rattle.dimacs_reader.specs.Scans.{Course}
+use Rattle.dimacs_reader.specs.declared.course.LineKind.TheVariants.{Fresh, Comment, Inside}
+use Rattle.dimacs_reader.specs.Scans.{Stage}
+use Rattle.dimacs_reader.specs.Scans.{Before, AfterWord, AfterFormat, AfterVars, AfterCount, Clauses}
+use Rattle.dimacs_reader.specs.Scans.{Done, Failed}
 use Rattle.dimacs_reader.specs.Pieces.{Piece, Line}
 use Rattle.cnf_core.specs.Spelling.{number_of_digits}
 use Rattle.dimacs_reader.specs.Reading.{fault_at, ◌>>=◌, bytes_begin_with, Header}
 use Rattle.dimacs_reader.specs.Reading.{counted, word, limited, count, header_end, Partial, no_clauses, token, tokens}
 use Rattle.dimacs_reader.specs.Reading.{ended, clause_lines, after_header, formula_of}
-use Rattle.dimacs_reader.specs.Scans.{stage_of, word_stage, outcome_at, after_token, after_end}
+use Rattle.dimacs_reader.specs.Scans.{stage_of, word_stage, outcome_at, after_end}
+use Rattle.dimacs_reader.proofs.Tokens.{course_after}
 use Rattle.dimacs_reader.proofs.Courses.{run_line, idle_tokens}
 
 -- at the start of a line
@@ -37,7 +38,7 @@ outcome_of_lines end s ls = outcome_at end (fold run_line (fresh s) ls).stage
 
 -- what they give behind the other tokens of a line that ends at e
 abbrev pub outcome_of_rest : ℕ → ℕ → Course → List Piece → List Line → Result Cnf Fault
-outcome_of_rest end e c ts ls = outcome_at end (fold run_line (after_end (fold after_token c ts) e) ls).stage
+outcome_of_rest end e c ts ls = outcome_at end (fold run_line (after_end (fold course_after c ts) e) ls).stage
 
 -- after a fault, and behind the clauses, all is passed over
 failed_stays : (end : ℕ) (f : Fault) (ls : List Line) → outcome_of_lines end (Failed f) ls ≡ Err f
@@ -66,7 +67,7 @@ done_line end e F ts ls =
 
 -- the tokens of a line among the clauses
 run_tokens : (n : ℕ) (r : Result Partial Fault) (ts : List Piece)
-    → fold after_token (inside (stage_of (Clauses n) r)) ts ≡ inside (stage_of (Clauses n) (r >>= λ b. tokens n b ts))
+    → fold course_after (inside (stage_of (Clauses n) r)) ts ≡ inside (stage_of (Clauses n) (r >>= λ b. tokens n b ts))
 run_tokens n (Err f) ts = idle_tokens (inside (Failed f)) ts refl
 run_tokens n (Ok b) [] = refl
 run_tokens n (Ok b) (t ∷ ts) = run_tokens n (token n b t) ts

@@ -2,6 +2,8 @@ pub mod PlainPieces
 pub mod PlainNumbers
 pub mod PlainLines
 pub mod PlainReads
+pub mod Words
+pub mod Tokens
 pub mod Courses
 pub mod Grammar
 pub mod OnePass

@@ -1,10 +1,10 @@
 -- A text read byte by byte gives what it means.
 use Rattle.std.proofs.Common.{◌≡◌, ℕ, List, length, refl, ap, ◌∙◌, arith}
 use Rattle.std.specs.Prelude.{fold, Option, Some, None}
-use Rattle.dimacs_reader.specs.declared.stage.Course.{Course}
-use Rattle.dimacs_reader.specs.declared.stage.Stage.{Stage}
-use Rattle.dimacs_reader.specs.declared.stage.Stage.TheVariants.{Before, AfterWord, AfterFormat, AfterVars, AfterCount, Clauses}
-use Rattle.dimacs_reader.specs.declared.stage.Stage.TheVariants.{Done, Failed}
+use Rattle.dimacs_reader.specs.Scans.{Course}
+use Rattle.dimacs_reader.specs.Scans.{Stage}
+use Rattle.dimacs_reader.specs.Scans.{Before, AfterWord, AfterFormat, AfterVars, AfterCount, Clauses}
+use Rattle.dimacs_reader.specs.Scans.{Done, Failed}
 use Rattle.dimacs_reader.specs.Pieces.{lines}
 use Rattle.dimacs_reader.specs.Reading.{reading_of}
 use Rattle.dimacs_reader.specs.Scans.{Scanned, fresh_scan, after_line, outcome_at, flushed, after_bytes, outcome, OnePass, Stands}

@@ -1,6 +1,6 @@
 -- What is read from a plain text is the formula that it spells.
-use Rattle.std.proofs.Common.{◌≡◌, ℕ, ◌<◌, ◌≤◌, ◌^◌, ◌+◌, ◌==◌, Bool, false, List, [], ◌∷◌, ◌++◌, length, Some, Ok, All, refl, sym, subst, ap, ◌∙◌, arith, append_assoc, append-nil, length-append}
-use Rattle.std.specs.Prelude.{map, decimal, codes, flat_map, IsErr, is_err}
+use Rattle.std.proofs.Common.{◌≡◌, ℕ, ◌<◌, ◌≤◌, ◌^◌, ◌+◌, ◌==◌, Bool, false, List, [], ◌∷◌, ◌++◌, length, Some, Ok, All, refl, sym, ap, ◌∙◌, arith, append_assoc, append-nil, length-append}
+use Rattle.std.specs.Prelude.{map, decimal, codes, flat_map}
 use Rattle.std.specs.Int.{IsInRange}
 use Rattle.std.proofs.lemmas.Bool.{ne_eqb, le-ltb, lt-leb}
 use Rattle.std.proofs.lemmas.Fmt.{decimal_nonempty}
@@ -233,14 +233,3 @@ IsPlain-reads text F plain = ap reading_of plain.spelled ∙ reading_of-plain_te
 pub IsPlain-unique : (text : List ℕ) (F G : Cnf) → IsPlain text F → IsPlain text G → F ≡ G
 IsPlain-unique text F G left right =
     let read = sym (IsPlain-reads text F left) ∙ IsPlain-reads text G right in cc
-
--- a text that is read as one formula is the plain spelling of no other
-pub others_are_not_plain : (text : List ℕ) (G : Cnf) → reading_of text ≡ Ok G → (IsPlain text G → ⊥)
-    → (F : Cnf) → IsPlain text F → ⊥
-others_are_not_plain text G reads other F plain =
-    let same : F ≡ G = (let both = sym (IsPlain-reads text F plain) ∙ reads in cc) in
-    other (subst (IsPlain text) same plain)
-
--- a text with a fault is no plain spelling
-pub faulty_is_not_plain : (text : List ℕ) → IsErr (reading_of text) → (F : Cnf) → IsPlain text F → ⊥
-faulty_is_not_plain text fault F plain = absurd (cc (sym (ap is_err (IsPlain-reads text F plain)) ∙ fault))

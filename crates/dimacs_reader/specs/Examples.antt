@@ -1,6 +1,7 @@
 -- Texts, and what each means.
-use Rattle.std.specs.Prelude.{◌≡◌, List, [], Ok, codes, ℕ}
+use Rattle.std.specs.Prelude.{◌≡◌, List, [], ◌∷◌, Ok, codes, ℕ, true, false}
 use Rattle.cnf_core.specs.Example.{chain}
+use Rattle.cnf_core.specs.Formulas.{Cnf, empty_formula}
 use Rattle.dimacs_reader.specs.declared.fault.BadKind.TheVariants.{NoHeader, BadHeader, BadNumber}
 use Rattle.dimacs_reader.specs.declared.fault.BadKind.TheVariants.{LiteralRange, OverLimit}
 use Rattle.dimacs_reader.specs.declared.fault.BadKind.TheVariants.{TooManyClauses, TooFewClauses}
@@ -20,6 +21,13 @@ loose_chain_text =
 abbrev pub chain_text_with_returns : List ℕ
 chain_text_with_returns = codes "p cnf 3 3\r\n1 0\r\n-1 2 0\r\n2 3 0\r\n"
 
+-- one clause over two variables
+abbrev small : Cnf
+small = record {
+  vars = 2;
+  clauses = (record { var = 1; positive = true } ∷ record { var = 2; positive = false } ∷ []) ∷ [];
+}
+
 pub record TextsAreWorked : Type 0 where
   pub plain : reading_of chain_text ≡ Ok chain
   pub loose : reading_of loose_chain_text ≡ Ok chain
@@ -33,3 +41,14 @@ pub record TextsAreWorked : Type 0 where
   pub short_header : reading_of (codes "p cnf 3\n") ≡ fault_at BadHeader 7
   pub no_number : reading_of (codes "p cnf 2 1\n1 x 0\n") ≡ fault_at BadNumber 12
   pub many_variables : reading_of (codes "p cnf 1048577 0\n") ≡ fault_at OverLimit 6
+  pub most_variables : reading_of (codes "p cnf 1048576 0\n") ≡ Ok (empty_formula 1048576)
+  pub leading_zeros : reading_of (codes "p cnf 02 01\n001 -02 00") ≡ Ok small
+  pub header_cut_short : reading_of (codes "p cnf") ≡ fault_at BadHeader 5
+  pub header_too_long : reading_of (codes "p cnf 1 1 1\n") ≡ fault_at BadHeader 10
+  pub second_header : reading_of (codes "p cnf 2 1\np cnf 2 1\n") ≡ fault_at BadNumber 10
+  pub negated_zero : reading_of (codes "p cnf 2 1\n-0 0\n") ≡ fault_at BadNumber 10
+  pub plus_sign : reading_of (codes "p cnf 2 1\n+1 0\n") ≡ fault_at BadNumber 10
+  pub long_number :
+      reading_of (codes "p cnf 2 1\n18446744073709551617 0\n") ≡ fault_at LiteralRange 10
+  pub end_in_a_clause : reading_of (codes "p cnf 2 2\n1 0\n2\n%\n") ≡ fault_at Unended 16
+  pub end_too_soon : reading_of (codes "p cnf 2 2\n1 0\n %\n") ≡ fault_at TooFewClauses 15

@@ -1,5 +1,5 @@
 -- The one plain spelling of a formula, and the texts that are one.
-use Rattle.std.specs.Prelude.{◌≡◌, ℕ, ◌≤◌, List, ◌++◌, length, codes, decimal, flat_map}
+use Rattle.std.specs.Prelude.{◌≡◌, ℕ, List, ◌++◌, length, codes, decimal, flat_map}
 use Rattle.cnf_core.specs.Literals.{Literals}
 use Rattle.cnf_core.specs.Formulas.{Cnf, IsFormula}
 use Rattle.cnf_core.specs.Spelling.{literal_text}
@@ -17,10 +17,7 @@ clause_line c = flat_map (λ l. literal_text l ++ codes " ") c ++ codes "0\n"
 abbrev pub plain_text : Cnf → List ℕ
 plain_text F = header_line F ++ flat_map clause_line F.clauses
 
--- the text is the plain spelling of the formula, and both are small
+-- the text is the plain spelling of the formula
 pub record IsPlain (text : List ℕ) (F : Cnf) : Type 0 where
   pub spelled : text ≡ plain_text F
-  pub short : length text ≤ 65536
-  pub few_vars : F.vars ≤ 12
-  pub few_clauses : length F.clauses ≤ 1000
   pub formula : IsFormula F

@@ -1,24 +1,67 @@
 -- A text read byte by byte: the state that a scan is in, and what a byte does to it.
-use Rattle.std.specs.Prelude.{◌≡◌, ℕ, ◌+◌, ◌-◌, ◌^◌, Bool, true, false, ◌&&◌, ◌||◌, if◌then◌else◌}
-use Rattle.std.specs.Prelude.{List, [], ◌∷◌, ◌++◌, length, fold, Option, Some, None, Result, Ok}
-use Rattle.std.specs.Prelude.{Err, bytes_eq, codes}
+use Rattle.std.specs.Prelude.{◌≡◌, ℕ, ◌+◌, ◌^◌, nat_le, Bool, true, false, ◌&&◌, ◌||◌}
+use Rattle.std.specs.Prelude.{if◌then◌else◌, List, length, fold, Option, Some, None, Result, Ok, Err}
 use Rattle.cnf_core.specs.Formulas.{Cnf}
 use Rattle.dimacs_reader.specs.declared.fault.BadKind.TheVariants.{NoHeader, BadHeader}
+use Rattle.dimacs_reader.specs.declared.fault.BadKind.TheVariants.{TooManyClauses}
 use Rattle.dimacs_reader.specs.declared.fault.BadKind.{BadKind}
 use Rattle.dimacs_reader.specs.declared.fault.Fault.{Fault}
 use Rattle.dimacs_reader.specs.declared.fault.ScanEnd.{ScanEnd}
 use Rattle.dimacs_reader.specs.declared.fault.ScanEnd.TheVariants.{Bad, Memory}
-use Rattle.dimacs_reader.specs.declared.stage.LineKind.{LineKind}
-use Rattle.dimacs_reader.specs.declared.stage.LineKind.TheVariants.{Fresh, Comment, Inside}
-use Rattle.dimacs_reader.specs.declared.stage.Stage.{Stage}
-use Rattle.dimacs_reader.specs.declared.stage.Stage.TheVariants.{Before, AfterWord, AfterFormat}
-use Rattle.dimacs_reader.specs.declared.stage.Stage.TheVariants.{AfterVars, AfterCount, Clauses}
-use Rattle.dimacs_reader.specs.declared.stage.Stage.TheVariants.{Done, Failed}
-use Rattle.dimacs_reader.specs.declared.stage.Course.{Course}
-use Rattle.dimacs_reader.specs.Pieces.{Piece, is_line_feed, is_blank}
-use Rattle.cnf_core.specs.Spelling.{number_of_digits}
-use Rattle.dimacs_reader.specs.Reading.{no_clauses, limited, token, ended, fault_at}
-use Rattle.dimacs_reader.specs.Reading.{bytes_begin_with, reading_of}
+use Rattle.dimacs_reader.specs.declared.course.LineKind.{LineKind}
+use Rattle.dimacs_reader.specs.declared.course.LineKind.TheVariants.{Fresh, Comment, Inside}
+use Rattle.dimacs_reader.specs.declared.course.Phase.{Phase}
+use Rattle.dimacs_reader.specs.declared.course.Phase.TheVariants as phase
+use Rattle.dimacs_reader.specs.declared.pass.Mark.{Mark}
+use Rattle.dimacs_reader.specs.declared.word.Word.{Word}
+use Rattle.dimacs_reader.specs.declared.word.Word.TheVariants.{Nothing}
+use Rattle.dimacs_reader.specs.Pieces.{is_line_feed, is_blank}
+use Rattle.dimacs_reader.specs.Reading.{no_clauses, limited, literal_from, Partial, ended, fault_at}
+use Rattle.dimacs_reader.specs.Reading.{reading_of}
+use Rattle.dimacs_reader.specs.Words.{byte_after, is_nothing, is_p, is_cnf, is_remark, is_percent}
+use Rattle.dimacs_reader.specs.Words.{number_in, literal_in}
+
+-- How far a text has come.
+pub data Stage : Type 0 where
+  -- before the header
+  Before : Stage
+  -- after the word `p`
+  AfterWord : Stage
+  -- after the word `cnf`
+  AfterFormat : Stage
+  -- after the number of variables
+  AfterVars : Partial → Stage
+  -- after the number of clauses, in the same line
+  AfterCount : ℕ → Partial → Stage
+  -- among the clauses
+  Clauses : ℕ → Partial → Stage
+  -- behind a line that ends the clauses
+  Done : Cnf → Stage
+  -- after the first fault
+  Failed : Fault → Stage
+
+-- the stage of a phase: what was read behind the header, as far as the phase says
+abbrev pub stage_at : Phase → ℕ → Partial → Stage
+stage_at phase.Before n b = Before
+stage_at phase.AfterWord n b = AfterWord
+stage_at phase.AfterFormat n b = AfterFormat
+stage_at phase.AfterVars n b = AfterVars b
+stage_at phase.AfterCount n b = AfterCount n b
+stage_at phase.Clauses n b = Clauses n b
+stage_at phase.Done n b = Done b.formula
+stage_at (phase.Failed e) n b = Failed e
+
+-- a stage, and what the line has shown
+pub record Course : Type 0 where
+  pub line : LineKind
+  pub stage : Stage
+
+abbrev pub course_at : LineKind → Stage → Course
+course_at line stage = record { line = line; stage = stage }
+
+-- before any token
+abbrev pub first_course : Course
+first_course = course_at Fresh Before
 
 -- the stage that the result of a step leads to
 abbrev pub stage_of : {A : Type 0} → (A → Stage) → Result A Fault → Stage
@@ -32,22 +75,26 @@ failed kind place = Failed (record { kind = kind; place = place })
 abbrev pub word_stage : Bool → Stage → BadKind → ℕ → Stage
 word_stage fits next kind place = if fits then next else failed kind place
 
--- after one token more, which may be the first of its line
-abbrev pub after_word : Bool → Stage → Piece → Stage
-after_word first Before t =
-    word_stage (bytes_eq t.bytes (codes "p")) AfterWord NoHeader t.place
-after_word first AfterWord t =
-    word_stage (bytes_eq t.bytes (codes "cnf")) AfterFormat BadHeader t.place
-after_word first AfterFormat t =
-    stage_of (λ n. AfterVars (no_clauses n)) (limited (2 ^ 20) t.place (number_of_digits t.bytes))
-after_word first (AfterVars b) t =
-    stage_of (λ n. AfterCount n b) (limited (2 ^ 21) t.place (number_of_digits t.bytes))
-after_word first (AfterCount n b) t = failed BadHeader t.place
-after_word first (Clauses n b) t =
-    if first && bytes_begin_with 37 t.bytes then stage_of Done (ended n t.place b)
-    else stage_of (Clauses n) (token n b t)
-after_word first (Done F) t = Done F
-after_word first (Failed e) t = Failed e
+-- one token more of the clauses, of which there are to be so many
+abbrev pub after_literal : ℕ → Partial → ℕ → Word → Result Partial Fault
+after_literal clauses b place w =
+    if nat_le clauses (length b.formula.clauses) then fault_at TooManyClauses place
+    else literal_from b place (literal_in w)
+
+-- after one token more, at this place, which may be the first of its line
+abbrev pub after_word : Bool → Stage → ℕ → Word → Stage
+after_word first Before place w = word_stage (is_p w) AfterWord NoHeader place
+after_word first AfterWord place w = word_stage (is_cnf w) AfterFormat BadHeader place
+after_word first AfterFormat place w =
+    stage_of (λ n. AfterVars (no_clauses n)) (limited (2 ^ 20) place (number_in w))
+after_word first (AfterVars b) place w =
+    stage_of (λ n. AfterCount n b) (limited (2 ^ 21) place (number_in w))
+after_word first (AfterCount n b) place w = failed BadHeader place
+after_word first (Clauses n b) place w =
+    if first && is_percent w then stage_of Done (ended n place b)
+    else stage_of (Clauses n) (after_literal n b place w)
+after_word first (Done F) place w = Done F
+after_word first (Failed e) place w = Failed e
 
 -- after a line that ends at this place
 abbrev pub after_line : ℕ → Stage → Stage
@@ -72,73 +119,71 @@ outcome_at place (Done F) = Ok F
 outcome_at place (Failed e) = Err e
 
 abbrev pub is_comment : LineKind → Bool
-is_comment Fresh = false
 is_comment Comment = true
-is_comment Inside = false
+is_comment line = false
 
 abbrev pub is_fresh : LineKind → Bool
 is_fresh Fresh = true
-is_fresh Comment = false
-is_fresh Inside = false
+is_fresh line = false
 
 abbrev pub is_over : Stage → Bool
-is_over Before = false
-is_over AfterWord = false
-is_over AfterFormat = false
-is_over (AfterVars b) = false
-is_over (AfterCount n b) = false
-is_over (Clauses n b) = false
 is_over (Done F) = true
 is_over (Failed e) = true
+is_over s = false
 
 -- whether the rest of the line is passed over: in a comment, behind the clauses, and after a fault
 abbrev pub is_idle : Course → Bool
 is_idle c = is_comment c.line || is_over c.stage
 
-abbrev pub after_first : Course → Piece → Course
-after_first c t =
-    if bytes_begin_with 99 t.bytes then record { line = Comment; stage = c.stage }
-    else record { line = Inside; stage = after_word true c.stage t }
+abbrev pub after_first : Course → ℕ → Word → Course
+after_first c place w =
+    if is_remark w then record { line = Comment; stage = c.stage }
+    else record { line = Inside; stage = after_word true c.stage place w }
 
-abbrev pub after_token : Course → Piece → Course
-after_token c t =
+abbrev pub after_token : Course → ℕ → Word → Course
+after_token c place w =
     if is_idle c then c
-    else (if is_fresh c.line then after_first c t
-    else record { line = Inside; stage = after_word false c.stage t })
+    else (if is_fresh c.line then after_first c place w
+    else record { line = Inside; stage = after_word false c.stage place w })
 
 abbrev pub after_end : Course → ℕ → Course
 after_end c place = record { line = Fresh; stage = after_line place c.stage }
 
--- how far a text was read: the number of its bytes, the bytes of the token that isn't over, of
--- which none are kept where the line is passed over, and what the tokens before it led to
+-- how far a text was read: the number of its bytes, the place where the token that isn't over began,
+-- or where one can begin, what its bytes are so far, and what the tokens before it led to
 pub record Scanned : Type 0 where
   pub place : ℕ
-  pub token : List ℕ
+  pub start : ℕ
+  pub word : Word
   pub course : Course
 
-abbrev pub scanned_at : ℕ → List ℕ → Course → Scanned
-scanned_at place token course = record { place = place; token = token; course = course }
+abbrev pub scanned_at : ℕ → ℕ → Word → Course → Scanned
+scanned_at place start word course =
+    record { place = place; start = start; word = word; course = course }
+
+-- a mark in a text, and what the tokens that are over led to
+abbrev pub scan_of : Mark → Course → Scanned
+scan_of m course = scanned_at m.place m.start m.word course
+
+-- where no token is open
+abbrev pub between_at : ℕ → Course → Scanned
+between_at place course = scanned_at place place Nothing course
 
 abbrev pub fresh_scan : Scanned
-fresh_scan = scanned_at 0 [] (record { line = Fresh; stage = Before })
-
-abbrev pub flushed_with : ℕ → Course → List ℕ → Course
-flushed_with place c [] = c
-flushed_with place c (b ∷ bs) =
-    after_token c (record { place = place - length (b ∷ bs); bytes = b ∷ bs })
+fresh_scan = between_at 0 first_course
 
 -- where the token is over
-abbrev pub flushed : Scanned → Course
-flushed s = flushed_with s.place s.course s.token
+abbrev pub flushed_at : ℕ → Word → Course → Course
+flushed_at start w c = if is_nothing w then c else after_token c start w
 
-abbrev pub kept : Course → List ℕ → ℕ → List ℕ
-kept c token b = if is_idle c then token else token ++ b ∷ []
+abbrev pub flushed : Scanned → Course
+flushed s = flushed_at s.start s.word s.course
 
 abbrev pub after_byte : Scanned → ℕ → Scanned
 after_byte s b =
-    if is_line_feed b then scanned_at (s.place + 1) [] (after_end (flushed s) s.place)
-    else (if is_blank b then scanned_at (s.place + 1) [] (flushed s)
-    else scanned_at (s.place + 1) (kept s.course s.token b) s.course)
+    if is_line_feed b then between_at (s.place + 1) (after_end (flushed s) s.place)
+    else (if is_blank b then between_at (s.place + 1) (flushed s)
+    else scanned_at (s.place + 1) s.start (byte_after s.word b) s.course)
 
 abbrev pub after_bytes : Scanned → List ℕ → Scanned
 after_bytes s text = fold after_byte s text

@@ -6,7 +6,7 @@ ghost use Rattle.dimacs_reader.specs.Examples.{TextsAreWorked};
 ghost use Rattle.dimacs_reader.specs.PlainText.{plain_text, IsPlain};
 ghost use Rattle.dimacs_reader.specs.Reading.{reading_of};
 
-/// Formulas and faults of small texts, among them one of each common kind of fault.
+/// Formulas and faults of small texts, among them each kind of fault.
 pub fn worked_texts()
     ensures { TextsAreWorked }
 {}

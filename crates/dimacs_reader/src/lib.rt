@@ -2,26 +2,24 @@
 //! formula that it writes, or its first fault with the place of that fault.
 //!
 //! What a text means is defined in `specs/Reading`, over its lines and tokens; `specs/Examples` has
-//! texts that are worked by it, and `specs/Scans` the same byte by byte. A [`Scan`] gives just that
-//! meaning, however the text is cut.
+//! texts that are worked by it. `specs/Scans` has the same byte by byte, over `specs/Words` for the bytes of
+//! a token. A [`Scan`] gives just that meaning, however the text is cut, and keeps none of its bytes.
 //!
-//! [`read_formula`] reads the feed `Text` of a desk. For now it takes one spelling of a formula,
-//! that of [`print_plain`], and small formulas: `specs/PlainText` says which.
+//! [`read_formula`] reads the feed `Text` of a desk, of at most 2^27 bytes. `specs/PlainText` has one
+//! spelling of each formula, which is read back as that formula.
 #![tactic(auto)]
 
+mod course;
 mod fault;
 pub mod laws;
-mod number;
 mod partial;
 mod pass;
-mod plain_text;
 mod read;
 mod scan;
-mod stage;
+mod word;
 
 pub use fault::{BadKind, Fault, ScanEnd};
-pub use plain_text::{plain_formula, print_plain};
-pub use read::{ReadEnd, SHORT_TEXT, read_formula};
+pub use read::{ReadEnd, TEXT_LIMIT, read_formula};
 pub use scan::Scan;
 
 #[cfg(test)]

@@ -1,4 +1,4 @@
-ghost use Rattle.std.specs.Prelude.{◌≡◌, ◌+◌, ◌^◌, ◌<◌, ◌≤◌, [], ◌∷◌, ◌++◌, length, IfOk};
+ghost use Rattle.std.specs.Prelude.{◌≡◌, ◌+◌, ◌^◌, ◌<◌, ◌≤◌, [], ◌∷◌, ◌++◌, length, Ok, Err, OnOk, IfErr};
 ghost use Rattle.cnf_core.specs.Literals.{IsWithin};
 ghost use Rattle.cnf_core.specs.Formulas.{with_clause};
 ghost use Rattle.dimacs_reader.specs.Reading.{partial_of, no_clauses, ended};
@@ -100,67 +100,62 @@ impl Partial {
     }
 
     /// One literal more in the open clause.
-    pub fn with_literal(self, lit: Lit) -> Result<Partial, NoMemory>
-        requires within { IsWithin self.formula.vars lit }
-        requires room { self.literals < 2 ^ 23 }
-        ensures { IfOk result (λ p.
-            p ≡ partial_of self.formula (self.clause ++ lit ∷ []) (self.literals + 1)) }
+    pub fn push(&mut self, lit: Lit) -> Result<(), NoMemory>
+        requires within { IsWithin self.old.formula.vars lit }
+        requires room { self.old.literals < 2 ^ 23 }
+        ensures { OnOk result (self.new
+            ≡ partial_of self.old.formula (self.old.clause ++ lit ∷ []) (self.old.literals + 1)) }
     {
-        let Partial {
-            formula,
-            mut clause,
-            literals,
-        } = self;
-        clause.push(lit)?;
-        Ok(Partial {
-            formula,
-            clause,
-            literals: literals + 1,
-        })
+        self.clause.push(lit)?;
+        self.literals += 1;
+        Ok(())
     }
 
-    /// The open clause ended.
-    pub fn with_end(self, alloc: Global) -> Result<Partial, NoMemory>
-        requires { length self.formula.clauses < 2 ^ 21 }
-        ensures { IfOk result (λ p.
-            p ≡ partial_of (with_clause self.formula self.clause) [] self.literals) }
+    /// The open clause ended. The formula keeps it in a room of its own size.
+    pub fn end_clause(&mut self, alloc: Global) -> Result<(), NoMemory>
+        requires { length self.old.formula.clauses < 2 ^ 21 }
+        ensures { OnOk result (self.new
+            ≡ partial_of (with_clause self.old.formula self.old.clause) [] self.old.literals) }
     {
-        let Partial {
-            mut formula,
-            mut clause,
-            literals,
-        } = self;
-        let lits = Vec::from_slice(alloc, &clause)?;
-        formula.push(Clause { lits })?;
-        clause.clear();
-        Ok(Partial {
-            formula,
-            clause,
-            literals,
-        })
+        let lits = Vec::from_slice(alloc, &self.clause)?;
+        self.formula.push(Clause { lits })?;
+        self.clause.clear();
+        Ok(())
     }
 
-    /// The formula, where the clauses end at this place, or what is wrong there.
-    pub fn ended(self, count: ClauseCount, place: u64) -> Result<Formula, Fault>
-        ensures { result ≡ ended count place self }
+    /// What is wrong where the clauses end at this place.
+    pub fn check_ended(&self, count: ClauseCount, place: u64) -> Result<(), Fault>
+        ensures ok { OnOk result (ended count place self.now ≡ Ok self.now.formula) }
+        ensures err { IfErr result (λ fault. ended count place self.now ≡ Err fault) }
     {
-        let Partial {
-            formula,
-            clause,
-            ..
-        } = self;
-        if !clause.is_empty() {
+        if !self.clause.is_empty() {
             return Err(Fault {
                 kind: BadKind::Unended,
                 place,
             });
         }
-        if formula.clauses().len() < count.get() {
+        if self.formula.clauses().len() < count.get() {
             return Err(Fault {
                 kind: BadKind::TooFewClauses,
                 place,
             });
         }
-        Ok(formula)
+        Ok(())
+    }
+
+    /// The formula of the clauses that are ended.
+    pub fn into_ended(self) -> Formula
+        ensures { result ≡ self.formula }
+    {
+        let Partial { formula, .. } = self;
+        formula
+    }
+
+    /// The formula, where the clauses end at this place, or what is wrong there.
+    pub fn into_formula(self, count: ClauseCount, place: u64) -> Result<Formula, Fault>
+        ensures { result ≡ ended count place self }
+    {
+        self.check_ended(count, place)?;
+        Ok(self.into_ended())
     }
 }

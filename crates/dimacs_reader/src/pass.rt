@@ -1,43 +1,67 @@
-ghost use Rattle.std.specs.Prelude.{◌≡◌, ◌^◌, ◌+◌, ◌<◌, [], OnOk};
-ghost use Rattle.dimacs_reader.specs.Scans.{scanned_at, fresh_scan, kept, after_end, flushed};
-ghost use Rattle.dimacs_reader.specs.Scans.{after_byte, outcome, Gives};
+ghost use Rattle.std.specs.Prelude.{◌≡◌, ◌^◌, ◌+◌, ◌<◌, ◌≤◌, length, IfOk, OnOk};
+ghost use Rattle.dimacs_reader.specs.Scans.{scan_of, fresh_scan, flushed_at, after_byte, after_bytes};
+ghost use Rattle.dimacs_reader.specs.Scans.{outcome, Gives};
+ghost use Rattle.dimacs_reader.specs.Words.{byte_after};
+ghost use Rattle.dimacs_reader.specs.declared.word.Word.TheVariants.{Nothing};
 
 use crate::ScanEnd;
-use crate::stage::{Course, LineKind, Stage, after_end, after_token, is_idle, outcome_at};
+use crate::course::Course;
+use crate::word::Word;
 use cnf_core::{Formula, NoMemory};
 use std::alloc::Global;
 use std::marker::Model;
-use std::mem;
 
-/// The course before any token.
-fn first_course() -> Course
-    ensures { result ≡ fresh_scan.course }
-{
-    Course {
-        line: LineKind::Fresh,
-        stage: Stage::Before,
+/// How many bytes of a text were read, and the token among them that isn't over: where it began, or
+/// where one can begin, and what its bytes are.
+#[derive(Clone, Copy, Debug, PartialEq, Eq)]
+pub struct Mark {
+    place: u64,
+    start: u64,
+    word: Word,
+}
+
+impl Mark {
+    /// Behind one byte more, of a token.
+    fn with(self, byte: u8) -> Mark
+        requires { self.place < 2 ^ 63 }
+        ensures { result
+            ≡ record { place = self.place + 1; start = self.start; word = byte_after self.word byte } }
+    {
+        Mark {
+            place: self.place + 1,
+            start: self.start,
+            word: self.word.with(byte),
+        }
+    }
+
+    /// Behind one byte more, where no token is open.
+    fn behind(self) -> Mark
+        requires { self.place < 2 ^ 63 }
+        ensures { result
+            ≡ record { place = self.place + 1; start = self.place + 1; word = Nothing } }
+    {
+        Mark {
+            place: self.place + 1,
+            start: self.place + 1,
+            word: Word::Nothing,
+        }
     }
 }
 
-/// A text read so far: how many bytes, the bytes of the token that isn't over, and what the tokens
-/// before it led to.
+/// A text read so far: how far, and what the tokens that are over led to. Of the text's bytes it keeps
+/// none.
 #[derive(Debug, Drop)]
 pub struct Pass {
-    alloc: Global,
-    place: u64,
-    token: Vec<u8>,
+    mark: Mark,
     course: Course,
 }
 
 impl Model for Pass {
-    ghost use Rattle.std.specs.Prelude.{◌≤◌, length};
-    ghost use Rattle.dimacs_reader.specs.Scans.{Scanned, scanned_at};
+    ghost use Rattle.dimacs_reader.specs.Scans.{Scanned, scan_of};
 
     ghost Value = { Scanned };
 
-    ghost view = { λ p. scanned_at p.place p.token.items p.course };
-
-    ghost invariant = { λ p. length p.token.items ≤ p.place };
+    ghost view = { λ p. scan_of p.mark p.course };
 }
 
 impl Pass {
@@ -46,91 +70,68 @@ impl Pass {
         ensures { result ≡ fresh_scan }
     {
         Pass {
-            alloc,
-            place: 0,
-            token: Vec::new(alloc),
-            course: first_course(),
+            mark: Mark {
+                place: 0,
+                start: 0,
+                word: Word::Nothing,
+            },
+            course: Course::new(alloc),
         }
     }
 
-    /// How many bytes were read.
-    pub fn place(&self) -> u64
-        ensures { result ≡ self.now.place }
+    /// Reads the bytes.
+    pub fn read(self, bytes: &[u8]) -> Result<Pass, NoMemory>
+        requires { self.place + length bytes.now ≤ 2 ^ 27 }
+        ensures after { IfOk result (λ p. p ≡ after_bytes self bytes.now) }
+        ensures place { IfOk result (λ p. p.place ≡ self.place + length bytes.now) }
     {
-        self.place
-    }
-
-    /// Reads one byte more.
-    pub fn step(&mut self, byte: u8) -> Result<(), NoMemory>
-        requires { self.old.place < 2 ^ 63 }
-        ensures after { OnOk result (self.new ≡ after_byte self.old byte) }
-        ensures place { OnOk result (self.new.place ≡ self.old.place + 1) }
-    {
-        match byte {
-            b'\n' => self.end_line(),
-            b' ' | b'\t' | b'\r' => self.skip(),
-            _ => self.keep(byte),
+        let Pass {
+            mut mark,
+            mut course,
+        } = self;
+        for byte in bytes {
+            mark = step(&mut course, mark, *byte)?;
         }
-    }
-
-    /// A line feed.
-    fn end_line(&mut self) -> Result<(), NoMemory>
-        requires { self.old.place < 2 ^ 63 }
-        ensures { OnOk result (self.new
-            ≡ scanned_at (self.old.place + 1) [] (after_end (flushed self.old) self.old.place)) }
-    {
-        self.end_token()?;
-        let course = mem::replace(&mut self.course, first_course());
-        self.course = after_end(course, self.place);
-        self.place += 1;
-        Ok(())
-    }
-
-    /// A blank.
-    fn skip(&mut self) -> Result<(), NoMemory>
-        requires { self.old.place < 2 ^ 63 }
-        ensures { OnOk result (self.new
-            ≡ scanned_at (self.old.place + 1) [] (flushed self.old)) }
-    {
-        self.end_token()?;
-        self.place += 1;
-        Ok(())
-    }
-
-    /// A byte of a token, which is kept unless the line is passed over.
-    fn keep(&mut self, byte: u8) -> Result<(), NoMemory>
-        requires { self.old.place < 2 ^ 63 }
-        ensures { OnOk result (self.new
-            ≡ scanned_at (self.old.place + 1) (kept self.old.course self.old.token byte)
-            self.old.course) }
-    {
-        if !is_idle(&self.course) {
-            self.token.push(byte)?;
-        }
-        self.place += 1;
-        Ok(())
-    }
-
-    /// Where a token is over.
-    fn end_token(&mut self) -> Result<(), NoMemory>
-        ensures { OnOk result (self.new ≡ scanned_at self.old.place [] (flushed self.old)) }
-    {
-        if self.token.is_empty() {
-            return Ok(());
-        }
-        let start = self.place - self.token.len() as u64;
-        let course = mem::replace(&mut self.course, first_course());
-        self.course = after_token(self.alloc, course, start, &self.token)?;
-        self.token.clear();
-        Ok(())
+        Ok(Pass { mark, course })
     }
 
     /// What the text gives, if it ends here.
-    pub fn outcome(mut self) -> Result<Formula, ScanEnd>
+    pub fn outcome(self) -> Result<Formula, ScanEnd>
         ensures { Gives result (outcome self) }
     {
-        self.end_token()?;
-        let Pass { place, course, .. } = self;
-        Ok(outcome_at(course.stage, place)?)
+        let Pass { mark, mut course } = self;
+        end_token(&mut course, mark.start, mark.word)?;
+        Ok(course.outcome(mark.place)?)
     }
+}
+
+/// Reads one byte, and gives the mark behind it.
+fn step(course: &mut Course, mark: Mark, byte: u8) -> Result<Mark, NoMemory>
+    requires { mark.place < 2 ^ 63 }
+    ensures after { IfOk result (λ m.
+        scan_of m course.new ≡ after_byte (scan_of mark course.old) byte) }
+    ensures place { IfOk result (λ m. m.place ≡ mark.place + 1) }
+{
+    match byte {
+        b'\n' => {
+            end_token(course, mark.start, mark.word)?;
+            course.end_line(mark.place);
+            Ok(mark.behind())
+        }
+        b' ' | b'\t' | b'\r' => {
+            end_token(course, mark.start, mark.word)?;
+            Ok(mark.behind())
+        }
+        _ => Ok(mark.with(byte)),
+    }
+}
+
+/// Where the token is over that began at this place, if one is open.
+fn end_token(course: &mut Course, start: u64, word: Word) -> Result<(), NoMemory>
+    ensures { OnOk result (course.new ≡ flushed_at start word course.old) }
+{
+    if word.is_nothing() {
+        return Ok(());
+    }
+    course.end_token(start, word)
 }

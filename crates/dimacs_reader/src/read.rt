@@ -1,14 +1,14 @@
-ghost use Rattle.std.specs.Prelude.{◌≡◌, ◌<◌, ℕ, List, ◌++◌, length, vec_len, IfOk};
-ghost use Rattle.dimacs_reader.specs.Feeds.{IsFrontOf, Came, Collects, failed_end, ReadsFormula};
+ghost use Rattle.std.specs.Prelude.{◌≡◌, ◌<◌, ℕ, List, length, vec_len, IfOk};
+ghost use Rattle.dimacs_reader.specs.Feeds.{Came, ScansText, ReadsFormula, read_end_of};
 ghost use Rattle.dimacs_reader.specs.declared.read.ReadEnd.TheVariants.{Memory};
 
-use crate::plain_text::plain_formula;
-use bone_desk::{Desk, Failed, Feed};
+use crate::{BadKind, Scan, ScanEnd};
+use bone_desk::{Desk, Feed};
 use cnf_core::{Formula, NoMemory};
 use std::alloc::{AllocError, Global};
 
-/// The most bytes of a text that is read for now.
-pub const SHORT_TEXT: usize = 65_536;
+/// The most bytes of a text that is read: 2^27.
+pub const TEXT_LIMIT: usize = 134_217_728;
 
 /// How many bytes are read at once.
 const BUFFER: usize = 65_536;
@@ -18,10 +18,23 @@ const BUFFER: usize = 65_536;
 pub enum ReadEnd {
     /// A read failed.
     Fault,
-    /// The text isn't one of those that are read for now: plain spellings of small formulas.
-    NotYet,
+    /// The text has more than [`TEXT_LIMIT`] bytes.
+    TooLong,
+    /// The text's first fault, with its place from 0.
+    Bad { kind: BadKind, place: u64 },
     /// There was no memory.
     Memory,
+}
+
+impl From<ScanEnd> for ReadEnd {
+    ghost from_gives = { λ scan_end end. end ≡ read_end_of scan_end };
+
+    fn from(end: ScanEnd) -> ReadEnd {
+        match end {
+            ScanEnd::Bad { kind, place } => ReadEnd::Bad { kind, place },
+            ScanEnd::Memory => ReadEnd::Memory,
+        }
+    }
 }
 
 impl From<NoMemory> for ReadEnd {
@@ -40,28 +53,6 @@ impl From<AllocError> for ReadEnd {
     }
 }
 
-/// The bytes of a text that came so far, unless they are too many.
-#[derive(Debug, Drop)]
-enum Front {
-    Whole(Vec<u8>),
-    Longer,
-}
-
-/// The front with a piece more.
-fn longer_front(front: Front, piece: &[u8]) -> Result<Front, NoMemory>
-    ensures { IfOk result (λ f.
-        (text : List ℕ) → IsFrontOf front text → IsFrontOf f (text ++ piece.now)) }
-{
-    let Front::Whole(mut bytes) = front else {
-        return Ok(Front::Longer);
-    };
-    if bytes.len().saturating_add(piece.len()) > SHORT_TEXT {
-        return Ok(Front::Longer);
-    }
-    bytes.extend_from_slice(piece)?;
-    Ok(Front::Whole(bytes))
-}
-
 /// So many zeros.
 fn zeros(alloc: Global, count: usize) -> Result<Vec<u8>, AllocError>
     ensures { IfOk result (λ v. vec_len v ≡ count) }
@@ -69,46 +60,37 @@ fn zeros(alloc: Global, count: usize) -> Result<Vec<u8>, AllocError>
     vec![in alloc; 0u8; count]
 }
 
-/// What the bytes so far leave to answer where a read failed.
-fn failed_end(front: &Front) -> ReadEnd
-    ensures { result ≡ failed_end front.now }
-{
-    match front {
-        Front::Whole(_) => ReadEnd::Fault,
-        Front::Longer => ReadEnd::NotYet,
-    }
-}
-
-/// Reads the feed `Text` to its end, also where it is too long, and gives its bytes. The buffer is
+/// Reads the feed `Text` to its end, unless it is too long, and gives a scan of it. The buffer is
 /// for the pieces.
-fn read_text<D: Desk>(alloc: Global, desk: &mut D, buffer: &mut [u8]) -> Result<Front, ReadEnd>
+fn scan_text<D: Desk>(alloc: Global, desk: &mut D, buffer: &mut [u8]) -> Result<Scan, ReadEnd>
     requires { 0 < length buffer.old }
     ensures { (text : List ℕ) × Came (D.told desk.old) (D.told desk.new) text
-        × Collects (D.told desk.old) (D.told desk.new) text result }
+        × ScansText (D.told desk.old) (D.told desk.new) text result }
 {
-    let mut front = Front::Whole(Vec::new(alloc));
-    for _ in 0..u64::MAX {
-        let count = match desk.read(Feed::Text, buffer) {
-            Ok(count) => count,
-            Err(Failed) => return Err(failed_end(&front)),
+    let mut scan = Scan::new(alloc);
+    let mut room = TEXT_LIMIT;
+    loop {
+        let Ok(count) = desk.read(Feed::Text, buffer) else {
+            return Err(ReadEnd::Fault);
         };
         if count == 0 {
-            return Ok(front);
+            return Ok(scan);
         }
-        front = longer_front(front, &buffer[..count])?;
+        if count > room {
+            return Err(ReadEnd::TooLong);
+        }
+        scan.feed(&buffer[..count])?;
+        room -= count;
     }
-    Err(ReadEnd::NotYet)
 }
 
-/// Reads the feed `Text` to its end, and gives its formula where it is a short text that is the
-/// plain spelling of a small formula. Too long a text comes before a failed read: past the limit
-/// the answer is [`ReadEnd::NotYet`] however the reading ends.
+/// Reads the feed `Text` to its end, also past a fault of the text, and gives the formula that it
+/// writes. It stops as soon as more than [`TEXT_LIMIT`] bytes came, so that a feed without end is
+/// too long; past the limit that is the only answer.
 pub fn read_formula<D: Desk>(alloc: Global, desk: &mut D) -> Result<Formula, ReadEnd>
     ensures { ReadsFormula (D.told desk.old) (D.told desk.new) result }
 {
     let mut buffer = zeros(alloc, BUFFER)?;
-    match read_text(alloc, desk, &mut buffer)? {
-        Front::Whole(text) => plain_formula(alloc, &text)?.ok_or(ReadEnd::NotYet),
-        Front::Longer => Err(ReadEnd::NotYet),
-    }
+    let scan = scan_text(alloc, desk, &mut buffer)?;
+    Ok(scan.finish()?)
 }

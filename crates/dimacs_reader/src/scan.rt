@@ -1,7 +1,7 @@
 ghost use Rattle.std.specs.Prelude.{◌≡◌, ◌+◌, ◌^◌, ◌≤◌, ℕ, List, ◌++◌, length, Some, IsSome};
-ghost use Rattle.std.specs.Prelude.{IsNone, IsErr, IsErrOf, IfOk, OnOk, OnErr};
+ghost use Rattle.std.specs.Prelude.{IsNone, IsErr, IsErrOf, OnOk, OnErr};
 ghost use Rattle.dimacs_reader.specs.Reading.{reading_of};
-ghost use Rattle.dimacs_reader.specs.Scans.{fresh_scan, Stands, byte_count, Gives, after_bytes};
+ghost use Rattle.dimacs_reader.specs.Scans.{fresh_scan, Stands, byte_count, Gives};
 
 use crate::ScanEnd;
 use crate::pass::Pass;
@@ -9,8 +9,9 @@ use cnf_core::{Formula, NoMemory};
 use std::alloc::Global;
 use std::marker::Model;
 
-/// Reads a text that comes in pieces, cut anywhere. Once it has found no memory it answers so from
-/// then on. A token's bytes are kept until the token is over, and no others of the text.
+/// Reads a text that comes in pieces, cut anywhere. It keeps none of the text's bytes, and takes memory
+/// for the formula and for the literals of the clause that is open. Once it has found no memory it
+/// answers so from then on.
 #[derive(Debug, Drop)]
 pub struct Scan {
     pass: Option<Pass>,
@@ -51,7 +52,7 @@ impl Scan {
         let Some(pass) = self.pass.take() else {
             return Err(NoMemory);
         };
-        self.pass = Some(stepped(pass, piece)?);
+        self.pass = Some(pass.read(piece)?);
         Ok(())
     }
 
@@ -66,16 +67,4 @@ impl Scan {
             None => Err(ScanEnd::Memory),
         }
     }
-}
-
-/// The pass after the bytes.
-fn stepped(mut pass: Pass, bytes: &[u8]) -> Result<Pass, NoMemory>
-    requires { pass.place + length bytes.now ≤ 2 ^ 27 }
-    ensures after { IfOk result (λ p. p ≡ after_bytes pass bytes.now) }
-    ensures place { IfOk result (λ p. p.place ≡ pass.place + length bytes.now) }
-{
-    for byte in bytes {
-        pass.step(*byte)?;
-    }
-    Ok(pass)
 }

@@ -1,11 +1,15 @@
-//! Worked texts, cut in many ways; what no clause says of reading a feed: how many reads it takes.
+//! Worked texts, cut in many ways; drawn ones against a plain reader; what no clause says of reading a
+//! feed: how many reads it takes.
 ghost use Rattle.std.specs.Prelude.{◌+◌, ◌^◌, ◌<◌, ◌≤◌, length};
 
-use crate::{BadKind, ReadEnd, Scan, ScanEnd, read_formula};
+use crate::{BadKind, ReadEnd, Scan, ScanEnd, TEXT_LIMIT, read_formula};
 use bone_desk::MemDesk;
 use cnf_core::Formula;
 use std::alloc::{AllocError, Global};
 use std::test::Fail;
+
+mod drawn;
+mod plain;
 
 const CHAIN: &[u8] = b"p cnf 3 3\n1 0\n-1 2 0\n2 3 0\n";
 
@@ -46,40 +50,54 @@ fn read_cut(alloc: Global, front: &[u8], back: &[u8]) -> Result<Formula, ScanEnd
     scan.finish()
 }
 
+// The same formula in the form of a collection's files, and with carriage returns.
+const CHAINS: [&[u8]; 3] = [
+    CHAIN,
+    b"c a sample\np cnf 3  3 \n 1 0\nc between\n -1 2 0\n 2 3 0\n%\n0\n\n",
+    b"p cnf 3 3\r\n1 0\r\n-1 2 0\r\n2 3 0\r\n",
+];
+
+// A text with each kind of fault, and the fault's place.
+const FAULTS: [(&[u8], BadKind, usize); 8] = [
+    (b"p cnf 3 3\n1 0\n-1 2 0\n2 3\n", BadKind::Unended, 25),
+    (b"p cnf 2 1\n3 0\n", BadKind::LiteralRange, 10),
+    (b"p cnf 2 2\n1 0\n2 0\n1 2 0\n", BadKind::TooManyClauses, 18),
+    (b"", BadKind::NoHeader, 0),
+    (b"p cnf 3\n", BadKind::BadHeader, 7),
+    (b"p cnf 2 1\n1 x 0\n", BadKind::BadNumber, 12),
+    (b"p cnf 2 2\n1 2 0\n", BadKind::TooFewClauses, 16),
+    (b"p cnf 1048577 0\n", BadKind::OverLimit, 6),
+];
+
 #[test]
-fn pieces_of_any_size_give_the_formula_or_the_first_fault(rt: HostRuntime) -> Result<(), Fail> {
+fn each_cutting_in_two_gives_the_formula(rt: HostRuntime) -> Result<(), Fail> {
     let alloc = rt.alloc();
-    let chain = [1, 0, -1, 2, 0, 2, 3, 0];
-    let loose = b"c a sample\np cnf 3  3 \n 1 0\nc between\n -1 2 0\n 2 3 0\n%\n0\n\n";
-    let returns = b"p cnf 3 3\r\n1 0\r\n-1 2 0\r\n2 3 0\r\n";
-    let faults = [
-        (
-            b"p cnf 3 3\n1 0\n-1 2 0\n2 3\n".as_slice(),
-            BadKind::Unended,
-            25,
-        ),
-        (b"p cnf 2 1\n3 0\n".as_slice(), BadKind::LiteralRange, 10),
-        (
-            b"p cnf 2 2\n1 0\n2 0\n1 2 0\n".as_slice(),
-            BadKind::TooManyClauses,
-            18,
-        ),
-        (b"".as_slice(), BadKind::NoHeader, 0),
-        (b"p cnf 3\n".as_slice(), BadKind::BadHeader, 7),
-        (b"p cnf 2 1\n1 x 0\n".as_slice(), BadKind::BadNumber, 12),
-        (b"p cnf 2 2\n1 2 0\n".as_slice(), BadKind::TooFewClauses, 16),
-        (b"p cnf 1048577 0\n".as_slice(), BadKind::OverLimit, 6),
-    ];
-    for size in [1, 2, 3, 7, 1000] {
-        for text in [CHAIN, loose.as_slice(), returns.as_slice()] {
-            let formula = read_in_pieces(alloc, text, size)?;
+    for text in CHAINS {
+        for cut in 0..=text.len() {
+            let formula = read_cut(alloc, &text[..cut], &text[cut..])?;
             assert_eq!(rt; formula.vars(), 3);
-            assert_eq!(rt; numbers(alloc, &formula)?.as_slice(), chain.as_slice());
+            assert_eq!(rt;
+                numbers(alloc, &formula)?.as_slice(),
+                [1, 0, -1, 2, 0, 2, 3, 0].as_slice(),
+                "cut {cut}"
+            );
         }
-        for (text, kind, place) in faults {
-            match read_in_pieces(alloc, text, size) {
-                Ok(_) => assert!(rt; false, "size {size}"),
-                Err(end) => assert_eq!(rt; end, ScanEnd::Bad { kind, place }, "size {size}"),
+    }
+    Ok(())
+}
+
+#[test]
+fn each_cutting_in_two_gives_the_fault(rt: HostRuntime) -> Result<(), Fail> {
+    let alloc = rt.alloc();
+    for (text, kind, place) in FAULTS {
+        let fault = ScanEnd::Bad {
+            kind,
+            place: place as u64,
+        };
+        for cut in 0..=text.len() {
+            match read_cut(alloc, &text[..cut], &text[cut..]) {
+                Ok(_) => assert!(rt; false, "cut {cut}"),
+                Err(end) => assert_eq!(rt; end, fault, "cut {cut}"),
             }
         }
     }
@@ -87,17 +105,31 @@ fn pieces_of_any_size_give_the_formula_or_the_first_fault(rt: HostRuntime) -> Re
 }
 
 #[test]
-fn each_cutting_in_two_gives_the_formula(rt: HostRuntime) -> Result<(), Fail> {
+fn pieces_of_one_byte_give_the_formula_or_the_fault(rt: HostRuntime) -> Result<(), Fail> {
     let alloc = rt.alloc();
-    for cut in 0..=CHAIN.len() {
-        let formula = read_cut(alloc, &CHAIN[..cut], &CHAIN[cut..])?;
-        let chain = [1, 0, -1, 2, 0, 2, 3, 0];
+    for text in CHAINS {
+        let formula = read_in_pieces(alloc, text, 1)?;
         assert_eq!(rt;
             numbers(alloc, &formula)?.as_slice(),
-            chain.as_slice(),
-            "cut {cut}"
+            [1, 0, -1, 2, 0, 2, 3, 0].as_slice()
         );
     }
+    for (text, kind, place) in FAULTS {
+        let place = place as u64;
+        match read_in_pieces(alloc, text, 1) {
+            Ok(_) => assert!(rt; false, "place {place}"),
+            Err(end) => assert_eq!(rt; end, ScanEnd::Bad { kind, place }),
+        }
+    }
+    Ok(())
+}
+
+#[test]
+fn the_most_variables_are_no_fault(rt: HostRuntime) -> Result<(), Fail> {
+    let alloc = rt.alloc();
+    let formula = read_in_pieces(alloc, b"p cnf 1048576 0\n", 16)?;
+    assert_eq!(rt; formula.vars(), 1_048_576);
+    assert!(rt; formula.clauses().is_empty());
     Ok(())
 }
 
@@ -125,18 +157,41 @@ fn a_feed_is_read_once_a_piece_and_once_at_its_end(rt: HostRuntime) -> Result<()
 }
 
 #[test]
-fn a_failed_read_and_a_long_text_give_no_formula(rt: HostRuntime) -> Result<(), Fail> {
+fn a_failed_read_and_a_fault_give_no_formula(rt: HostRuntime) -> Result<(), Fail> {
     let alloc = rt.alloc();
-    for (length, piece, fail, end) in [
-        (65_537, 1000, 0, ReadEnd::NotYet),
-        (65_536, 1000, 0, ReadEnd::NotYet),
-        (65_537, 1000, 67, ReadEnd::NotYet),
-        (65_537, 1000, 66, ReadEnd::Fault),
-        (27, 5, 3, ReadEnd::Fault),
+    let bad = ReadEnd::Bad {
+        kind: BadKind::LiteralRange,
+        place: 10,
+    };
+    // The text is read to its end, in four calls, also past its fault.
+    for (fail, end, calls) in [
+        (1, ReadEnd::Fault, 1),
+        (3, ReadEnd::Fault, 3),
+        (4, ReadEnd::Fault, 4),
+        (5, bad, 4),
     ] {
-        let mut desk = MemDesk::new(alloc, piece, 0)?;
-        desk.text = line_feeds(alloc, length)?;
+        let mut desk = MemDesk::new(alloc, 5, 0)?;
+        desk.text = b"p cnf 2 1\n3 0\n".to_vec(alloc)?;
         desk.fail.push(fail)?;
+        match read_formula(alloc, &mut desk) {
+            Ok(_) => assert!(rt; false, "call {fail}"),
+            Err(other) => assert_eq!(rt; other, end, "call {fail}"),
+        }
+        assert_eq!(rt; desk.calls, calls, "call {fail}");
+    }
+    Ok(())
+}
+
+#[test]
+fn a_text_of_one_byte_past_the_limit_is_too_long(rt: HostRuntime) -> Result<(), Fail> {
+    let alloc = rt.alloc();
+    let nothing = ReadEnd::Bad {
+        kind: BadKind::NoHeader,
+        place: TEXT_LIMIT as u64,
+    };
+    for (length, end) in [(TEXT_LIMIT, nothing), (TEXT_LIMIT + 1, ReadEnd::TooLong)] {
+        let mut desk = MemDesk::new(alloc, 65_536, 0)?;
+        desk.text = line_feeds(alloc, length)?;
         match read_formula(alloc, &mut desk) {
             Ok(_) => assert!(rt; false, "length {length}"),
             Err(other) => assert_eq!(rt; other, end, "length {length}"),

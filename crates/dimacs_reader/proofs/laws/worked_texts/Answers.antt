@@ -16,4 +16,14 @@ returns c = record {
   short_header = refl;
   no_number = refl;
   many_variables = refl;
+  most_variables = refl;
+  leading_zeros = refl;
+  header_cut_short = refl;
+  header_too_long = refl;
+  second_header = refl;
+  negated_zero = refl;
+  plus_sign = refl;
+  long_number = refl;
+  end_in_a_clause = refl;
+  end_too_soon = refl;
 }

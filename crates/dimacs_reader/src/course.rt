@@ -1,0 +1,272 @@
+ghost use Rattle.std.specs.Prelude.{◌≡◌, false, ℕ, IfOk, OnOk};
+ghost use Rattle.dimacs_reader.specs.Reading.{limited, ended, Partial};
+ghost use Rattle.dimacs_reader.specs.Words.{number_in};
+ghost use Rattle.dimacs_reader.specs.Scans.{AfterFormat, AfterVars, Clauses, Done, stage_at, course_at};
+ghost use Rattle.dimacs_reader.specs.Scans.{first_course, stage_of, failed, word_stage, after_literal};
+ghost use Rattle.dimacs_reader.specs.Scans.{after_word, after_token, after_end, outcome_at, is_idle};
+
+use crate::partial::{ClauseCount, Partial};
+use crate::word::Word;
+use crate::{BadKind, Fault};
+use cnf_core::{Formula, Lit, MAX_CLAUSES, MAX_LITERALS, MAX_VARS, NoMemory};
+use std::alloc::Global;
+use std::marker::Model;
+
+/// How far a text has come.
+#[derive(Clone, Copy, Debug, PartialEq, Eq)]
+pub enum Phase {
+    /// Before the header.
+    Before,
+    /// After the word `p`.
+    AfterWord,
+    /// After the word `cnf`.
+    AfterFormat,
+    /// After the number of variables.
+    AfterVars,
+    /// After the number of clauses, in the same line.
+    AfterCount,
+    /// Among the clauses.
+    Clauses,
+    /// Behind a line that ends the clauses.
+    Done,
+    /// After the first fault.
+    Failed(Fault),
+}
+
+/// What the line that is being read has shown so far.
+#[derive(Clone, Copy, Debug, PartialEq, Eq)]
+pub enum LineKind {
+    /// No token yet.
+    Fresh,
+    /// It is a comment.
+    Comment,
+    /// A token that is no comment.
+    Inside,
+}
+
+/// What the tokens of a text led to: how far it has come, and what was read behind the header, as far
+/// as it has come.
+#[derive(Debug, Drop)]
+pub struct Course {
+    alloc: Global,
+    line: LineKind,
+    phase: Phase,
+    count: ClauseCount,
+    partial: Partial,
+}
+
+impl Model for Course {
+    ghost use Rattle.dimacs_reader.specs.Scans.{Course, stage_at, course_at};
+
+    ghost Value = { Course };
+
+    ghost view = { λ c. course_at c.line (stage_at c.phase c.count c.partial) };
+}
+
+impl Course {
+    /// The course before any token. It takes no memory.
+    pub fn new(alloc: Global) -> Course
+        ensures { result ≡ first_course }
+    {
+        Course {
+            alloc,
+            line: LineKind::Fresh,
+            phase: Phase::Before,
+            count: ClauseCount::new(0),
+            partial: Partial::new(alloc, 0),
+        }
+    }
+
+    /// Whether the rest of the line is passed over: in a comment, behind the clauses, after a fault.
+    fn is_idle(&self) -> bool
+        ensures { result ≡ is_idle self.now }
+    {
+        matches!(self.line, LineKind::Comment)
+            || matches!(self.phase, Phase::Done | Phase::Failed(_))
+    }
+
+    /// After one token more, at this place.
+    pub fn end_token(&mut self, place: u64, word: Word) -> Result<(), NoMemory>
+        ensures { OnOk result (self.new ≡ after_token self.old place word) }
+    {
+        if self.is_idle() {
+            return Ok(());
+        }
+        let first = matches!(self.line, LineKind::Fresh);
+        if first && word.is_remark() {
+            self.line = LineKind::Comment;
+            return Ok(());
+        }
+        self.line = LineKind::Inside;
+        self.read_word(first, place, word)
+    }
+
+    /// After a token that is no comment, and may be the first of its line.
+    fn read_word(&mut self, first: bool, place: u64, word: Word) -> Result<(), NoMemory>
+        ensures { OnOk result (self.new
+            ≡ course_at self.old.line (after_word first self.old.stage place word)) }
+    {
+        self.phase = match self.phase {
+            Phase::Clauses => {
+                if first && word.is_percent() {
+                    percent_phase(&self.partial, self.count, place)
+                } else {
+                    literal_phase(&mut self.partial, self.alloc, self.count, place, word)?
+                }
+            }
+            Phase::Before => expected(word.is_p(), Phase::AfterWord, BadKind::NoHeader, place),
+            Phase::AfterWord => expected(
+                word.is_cnf(),
+                Phase::AfterFormat,
+                BadKind::BadHeader,
+                place,
+            ),
+            Phase::AfterFormat => vars_phase(&mut self.partial, self.alloc, place, word),
+            Phase::AfterVars => count_phase(&mut self.count, place, word),
+            Phase::AfterCount => failed(BadKind::BadHeader, place),
+            Phase::Done => Phase::Done,
+            Phase::Failed(fault) => Phase::Failed(fault),
+        };
+        Ok(())
+    }
+
+    /// After a line that ends at this place.
+    pub fn end_line(&mut self, place: u64)
+        ensures { self.new ≡ after_end self.old place }
+    {
+        self.line = LineKind::Fresh;
+        match self.phase {
+            Phase::AfterWord | Phase::AfterFormat | Phase::AfterVars => {
+                self.phase = failed(BadKind::BadHeader, place);
+            }
+            Phase::AfterCount => self.phase = Phase::Clauses,
+            Phase::Before | Phase::Clauses | Phase::Done | Phase::Failed(_) => {}
+        }
+    }
+
+    /// What the text gives where it ends at this place.
+    pub fn outcome(self, place: u64) -> Result<Formula, Fault>
+        ensures { result ≡ outcome_at place self.stage }
+    {
+        let Course {
+            phase,
+            count,
+            partial,
+            ..
+        } = self;
+        match phase {
+            Phase::Before => Err(Fault {
+                kind: BadKind::NoHeader,
+                place,
+            }),
+            Phase::AfterWord | Phase::AfterFormat | Phase::AfterVars => Err(Fault {
+                kind: BadKind::BadHeader,
+                place,
+            }),
+            Phase::AfterCount | Phase::Clauses => partial.into_formula(count, place),
+            Phase::Done => Ok(partial.into_ended()),
+            Phase::Failed(fault) => Err(fault),
+        }
+    }
+}
+
+/// The phase after a fault.
+fn failed(kind: BadKind, place: u64) -> Phase
+    ensures { result ≡ Phase.Failed (record { kind = kind; place = place }) }
+{
+    Phase::Failed(Fault { kind, place })
+}
+
+/// After a word of the header that has to be there.
+fn expected(fits: bool, next: Phase, kind: BadKind, place: u64) -> Phase
+    ensures { (n : ℕ) (b : Partial)
+        → stage_at result n b ≡ word_stage fits (stage_at next n b) kind place }
+{
+    if fits { next } else { failed(kind, place) }
+}
+
+/// The number of a header's token, which is at most the limit.
+fn limited(limit: u32, place: u64, word: Word) -> Result<u32, Fault>
+    ensures { result ≡ limited limit place (number_in word) }
+{
+    match word {
+        Word::Digits(number) if number <= limit => Ok(number),
+        Word::Digits(_) => Err(Fault {
+            kind: BadKind::OverLimit,
+            place,
+        }),
+        _ => Err(Fault {
+            kind: BadKind::BadHeader,
+            place,
+        }),
+    }
+}
+
+/// After the header's number of variables.
+fn vars_phase(partial: &mut Partial, alloc: Global, place: u64, word: Word) -> Phase
+    ensures { (n : ℕ) → stage_at result n partial.new ≡ after_word false AfterFormat place word }
+{
+    match limited(MAX_VARS, place, word) {
+        Ok(vars) => {
+            *partial = Partial::new(alloc, vars);
+            Phase::AfterVars
+        }
+        Err(fault) => Phase::Failed(fault),
+    }
+}
+
+/// After the header's number of clauses.
+fn count_phase(count: &mut ClauseCount, place: u64, word: Word) -> Phase
+    ensures { (b : Partial) → stage_at result count.new b ≡ after_word false (AfterVars b) place word }
+{
+    match limited(MAX_CLAUSES as u32, place, word) {
+        Ok(clauses) => {
+            *count = ClauseCount::new(clauses);
+            Phase::AfterCount
+        }
+        Err(fault) => Phase::Failed(fault),
+    }
+}
+
+/// After the token that ends the clauses.
+fn percent_phase(partial: &Partial, count: ClauseCount, place: u64) -> Phase
+    ensures { stage_at result count partial.now ≡ stage_of Done (ended count place partial.now) }
+{
+    match partial.check_ended(count, place) {
+        Ok(()) => Phase::Done,
+        Err(fault) => Phase::Failed(fault),
+    }
+}
+
+/// After a token among the clauses.
+fn literal_phase(
+    partial: &mut Partial,
+    alloc: Global,
+    count: ClauseCount,
+    place: u64,
+    word: Word,
+) -> Result<Phase, NoMemory>
+    ensures { IfOk result (λ phase. stage_at phase count partial.new
+        ≡ stage_of (Clauses count) (after_literal count partial.old place word)) }
+{
+    if partial.clause_count() >= count.get() {
+        return Ok(failed(BadKind::TooManyClauses, place));
+    }
+    let (var, positive) = match word {
+        Word::Digits(var) => (var, true),
+        Word::Negative(var) if var > 0 => (var, false),
+        _ => return Ok(failed(BadKind::BadNumber, place)),
+    };
+    if var == 0 {
+        partial.end_clause(alloc)?;
+        return Ok(Phase::Clauses);
+    }
+    if var > partial.vars() {
+        return Ok(failed(BadKind::LiteralRange, place));
+    }
+    if partial.literals() >= MAX_LITERALS {
+        return Ok(failed(BadKind::OverLimit, place));
+    }
+    partial.push(Lit::new(var, positive))?;
+    Ok(Phase::Clauses)
+}
