@@ -1,3 +1,2 @@
 mod Lines
-mod Pieces
 pub mod Verdicts

@@ -1,4 +1,4 @@
-//! Answers as text: the verdict, and the backbone with a line for each literal.
+//! Answers as text: the verdict, and a line for each literal of the backbone, or of what is known of it.
 #![tactic(auto)]
 
 mod answer;

@@ -3,7 +3,7 @@ ghost use Rattle.std.specs.Prelude.{◌≡◌, ◌++◌, codes, OnOk, OnErr};
 ghost use Rattle.bone_desk.specs.Told.{Rose, WritesOnly, Gave};
 ghost use Rattle.bone_desk.specs.Gives.{GaveFront, Owes};
 ghost use Rattle.cnf_core.specs.Spelling.{literal_text};
-ghost use Rattle.answer_text.specs.AnswerText.{IsInOrder, text_of, fixed_line, fixed_lines, sat_text};
+ghost use Rattle.answer_text.specs.AnswerText.{IsInOrder, text_of, literal_line, literal_lines, groups_text};
 
 use crate::Answer;
 use bone_desk::{Act, Desk, Failed, Port, PortBuffer};
@@ -31,7 +31,8 @@ impl From<Failed> for WriteFault {
 }
 
 /// Writes the text of an answer to the Answer port, and takes no memory. At a fault the port has a front
-/// of the text. The literals rise strictly by variable, so that the text is in the answer's grammar.
+/// of the text. The literals of each list rise strictly by variable, and the lists share no variable, so
+/// that the text is in the answer's grammar.
 pub fn write_answer<D: Desk>(desk: &mut D, answer: &Answer) -> Result<(), WriteFault>
     requires { IsInOrder answer.now }
     ensures given { OnOk result (Gave Port.Answer (text_of answer.now) (D.told desk.old) (D.told desk.new)) }
@@ -60,41 +61,74 @@ fn push_answer<D: Desk>(
 {
     match answer {
         Answer::Unsat => buffer.push(desk, Port::Answer, b"s UNSATISFIABLE\n"),
-        Answer::Sat(fixed) => push_backbone(desk, buffer, fixed),
+        Answer::Sat(fixed) => push_groups(desk, buffer, b"s SATISFIABLE\n", fixed, &[]),
+        Answer::Partial { fixed, still } => push_groups(desk, buffer, b"s PARTIAL\n", fixed, still),
+        Answer::Unknown => buffer.push(desk, Port::Answer, b"s UNKNOWN\n"),
     }
 }
 
-/// The verdict of a formula with a model, a line for each literal of the backbone, and the end line.
-fn push_backbone<D: Desk>(
+/// The verdict, a line for each literal of the backbone and for each that may be in it, and the end
+/// line.
+fn push_groups<D: Desk>(
     desk: &mut D,
     buffer: &mut PortBuffer,
+    verdict: &[u8],
     fixed: &[Lit],
+    still: &[Lit],
 ) -> Result<(), Failed>
-    ensures owes { OnOk result (Owes Port.Answer buffer.new (buffer.old ++ sat_text fixed.now)
+    ensures owes { OnOk result
+        (Owes Port.Answer buffer.new (buffer.old ++ groups_text verdict.now fixed.now still.now)
         (D.told desk.old) (D.told desk.new)) }
-    ensures front { OnErr result (GaveFront Port.Answer (buffer.old ++ sat_text fixed.now)
+    ensures front { OnErr result
+        (GaveFront Port.Answer (buffer.old ++ groups_text verdict.now fixed.now still.now)
         (D.told desk.old) (D.told desk.new)) }
     ensures only { WritesOnly Port.Answer (D.told desk.old) (D.told desk.new) }
     ensures cause { OnErr result (Rose (Act.Write Port.Answer) (D.told desk.old) (D.told desk.new)) }
 {
-    buffer.push(desk, Port::Answer, b"s SATISFIABLE\n")?;
-    for lit in fixed {
-        push_line(desk, buffer, *lit)?;
-    }
+    buffer.push(desk, Port::Answer, verdict)?;
+    push_lines(desk, buffer, b'b', fixed)?;
+    push_lines(desk, buffer, b'u', still)?;
     buffer.push(desk, Port::Answer, b"b 0\n")
 }
 
-/// One line for a literal of the backbone.
-fn push_line<D: Desk>(desk: &mut D, buffer: &mut PortBuffer, lit: Lit) -> Result<(), Failed>
-    ensures owes { OnOk result (Owes Port.Answer buffer.new (buffer.old ++ fixed_line lit)
+/// A line for each literal, with this letter.
+fn push_lines<D: Desk>(
+    desk: &mut D,
+    buffer: &mut PortBuffer,
+    letter: u8,
+    lits: &[Lit],
+) -> Result<(), Failed>
+    ensures owes { OnOk result
+        (Owes Port.Answer buffer.new (buffer.old ++ literal_lines letter lits.now)
         (D.told desk.old) (D.told desk.new)) }
-    ensures front { OnErr result (GaveFront Port.Answer (buffer.old ++ fixed_line lit)
+    ensures front { OnErr result
+        (GaveFront Port.Answer (buffer.old ++ literal_lines letter lits.now)
+        (D.told desk.old) (D.told desk.new)) }
+    ensures only { WritesOnly Port.Answer (D.told desk.old) (D.told desk.new) }
+    ensures cause { OnErr result (Rose (Act.Write Port.Answer) (D.told desk.old) (D.told desk.new)) }
+{
+    for lit in lits {
+        push_line(desk, buffer, letter, *lit)?;
+    }
+    Ok(())
+}
+
+/// One line for a literal, with this letter.
+fn push_line<D: Desk>(
+    desk: &mut D,
+    buffer: &mut PortBuffer,
+    letter: u8,
+    lit: Lit,
+) -> Result<(), Failed>
+    ensures owes { OnOk result (Owes Port.Answer buffer.new (buffer.old ++ literal_line letter lit)
+        (D.told desk.old) (D.told desk.new)) }
+    ensures front { OnErr result (GaveFront Port.Answer (buffer.old ++ literal_line letter lit)
         (D.told desk.old) (D.told desk.new)) }
     ensures only { WritesOnly Port.Answer (D.told desk.old) (D.told desk.new) }
     ensures cause { OnErr result (Rose (Act.Write Port.Answer) (D.told desk.old) (D.told desk.new)) }
 {
     let mut digits = Buffer::new();
-    buffer.push(desk, Port::Answer, b"b ")?;
+    buffer.push(desk, Port::Answer, &[letter, b' '])?;
     buffer.push(desk, Port::Answer, literal_bytes(&mut digits, lit))?;
     buffer.push(desk, Port::Answer, b"\n")
 }

@@ -1,34 +1,43 @@
 -- From the answer of a formula to what is written of it.
-use Rattle.std.proofs.Common.{◌≡◌, List, ℕ, ap, sym, ◌∙◌, subst}
+use Rattle.std.proofs.Common.{◌≡◌, List, ℕ, ap, sym, ◌∙◌, subst, inl, inr}
 use Rattle.cnf_core.specs.Literals.{Literals, RisesByVar}
-use Rattle.cnf_core.specs.Formulas.{Cnf}
+use Rattle.cnf_core.specs.Formulas.{Cnf, backbone}
 use Rattle.cnf_core.proofs.Backbones.{backbone_rises}
 use Rattle.bone_desk.specs.declared.desk.Port.TheVariants as port
 use Rattle.bone_desk.specs.Told.{Told, Gave}
 use Rattle.bone_desk.specs.Gives.{GaveFront}
-use Rattle.answer_text.specs.AnswerText.{answer_text, text_of, sat_text, IsInOrder}
-use Rattle.answer_text.specs.declared.answer.Answer.{Answer}
-use Rattle.answer_text.specs.declared.answer.Answer.TheVariants.{Unsat, Sat}
+use Rattle.answer_text.specs.AnswerText.{answer_text, unsat_text, sat_text}
 use Rattle.answer_text.proofs.Verdicts.{answer_text-sat, answer_text-unsat}
-use Rattle.backbone_main.specs.Finish.{Finishes, IsAnswerOf, verdict_of}
+use Rattle.backbone_main.specs.declared.ending.Ending.{Ending}
+use Rattle.backbone_main.specs.declared.ending.Ending.TheVariants.{Complete, Unsatisfiable}
+use Rattle.backbone_main.specs.Outcome.{HasModel, HasNoModel}
+use Rattle.backbone_main.specs.Finish.{Finishes, EndsWriting}
 
-pub text_of-answer : (answer : Answer) (F : Cnf) → IsAnswerOf answer F → text_of answer ≡ answer_text F
-text_of-answer Unsat F is = sym (answer_text-unsat F is)
-text_of-answer (Sat fixed) F is = ap sat_text is.1 ∙ sym (answer_text-sat F is.0)
+-- a backbone is written in order
+pub rises_as : (fixed : Literals) (F : Cnf) → fixed ≡ backbone F → RisesByVar fixed
+rises_as fixed F is = let P : Literals → Type 0 = RisesByVar in subst P (sym is) (backbone_rises F)
 
-pub in_order : (answer : Answer) (F : Cnf) → IsAnswerOf answer F → IsInOrder answer
-in_order Unsat F is = tt
-in_order (Sat fixed) F is = let P : Literals → Type 0 = RisesByVar in subst P (sym is.1) (backbone_rises F)
+-- the run ends so, and the answer is the formula's
+finishes : (text : List ℕ) (written ending : Ending) (F : Cnf) (old new : Told) → text ≡ answer_text F
+    → (Gave port.Answer (answer_text F) old new → Finishes written F old new)
+    → EndsWriting text written ending old new → Finishes ending F old new
+finishes text written ending F old new is whole writes = elim writes [
+  | inl w ↦
+      let P : Ending → Type 0 = λ e. Finishes e F old new in
+      let Q : List ℕ → Type 0 = λ t. Gave port.Answer t old new in
+      subst P (sym w.0) (whole (subst Q is w.1))
+  | inr w ↦
+      let P : Ending → Type 0 = λ e. Finishes e F old new in
+      let Q : List ℕ → Type 0 = λ t. GaveFront port.Answer t old new in
+      subst P (sym w.0) (subst Q is w.1, w.2)
+]
 
-pub finishes_whole : (answer : Answer) (F : Cnf) (old new : Told) → IsAnswerOf answer F
-    → Gave port.Answer (text_of answer) old new → Finishes (verdict_of answer) F old new
-finishes_whole Unsat F old new is gave =
-    let P : List ℕ → Type 0 = λ text. Gave port.Answer text old new in (is, subst P (text_of-answer Unsat F is) gave)
-finishes_whole (Sat fixed) F old new is gave =
-    let P : List ℕ → Type 0 = λ text. Gave port.Answer text old new in
-    (is.0, subst P (text_of-answer (Sat fixed) F is) gave)
+pub finishes_sat : (fixed : Literals) (ending : Ending) (F : Cnf) (old new : Told) → HasModel F → fixed ≡ backbone F
+    → EndsWriting (sat_text fixed) Complete ending old new → Finishes ending F old new
+finishes_sat fixed ending F old new has is writes =
+    finishes (sat_text fixed) Complete ending F old new (ap sat_text is ∙ sym (answer_text-sat F has)) (λ gave. (has, gave)) writes
 
-pub front_of_answer : (answer : Answer) (F : Cnf) {old new : Told} → IsAnswerOf answer F
-    → GaveFront port.Answer (text_of answer) old new → GaveFront port.Answer (answer_text F) old new
-front_of_answer answer F {old} {new} is front =
-    let P : List ℕ → Type 0 = λ text. GaveFront port.Answer text old new in subst P (text_of-answer answer F is) front
+pub finishes_unsat : (ending : Ending) (F : Cnf) (old new : Told) → HasNoModel F
+    → EndsWriting unsat_text Unsatisfiable ending old new → Finishes ending F old new
+finishes_unsat ending F old new none writes =
+    finishes unsat_text Unsatisfiable ending F old new (sym (answer_text-unsat F none)) (λ gave. (none, gave)) writes

@@ -1,4 +1,5 @@
 pub mod Words
+pub mod Notes
 pub mod Outcome
 pub mod Finish
 pub mod Numbered

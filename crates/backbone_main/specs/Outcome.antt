@@ -1,24 +1,29 @@
--- What a run of the program did, by the status that it ends with.
-use Rattle.std.specs.Prelude.{◌≡◌, ◌≢◌, ◌⊎◌, ◌-◌, ◌^◌, ◌<◌, ℕ, List, [], length, Some}
+-- What a run of the program did, by how it ended.
+use Rattle.std.specs.Prelude.{◌≡◌, ◌≢◌, ◌-◌, ◌^◌, ◌<◌, ◌≤◌, ℕ, List, [], length, Some, Result, Ok, Err}
 use Rattle.bone_desk.specs.declared.desk.Feed.TheVariants as feed
+use Rattle.bone_desk.specs.declared.desk.Feed.{Feed}
 use Rattle.bone_desk.specs.declared.desk.Port.TheVariants as port
 use Rattle.bone_desk.specs.declared.desk.Port.{Port}
 use Rattle.bone_desk.specs.declared.desk.Act.{Act}
 use Rattle.bone_desk.specs.declared.desk.Act.TheVariants.{OpenFeed, Read, Write}
-use Rattle.bone_desk.specs.Told.{Told, Rose, SameBytes, Took, Gave}
+use Rattle.bone_desk.specs.Told.{Told, Rose, WritesOnly, Took, Gave}
 use Rattle.bone_desk.specs.Gives.{GaveFront}
 use Rattle.cnf_core.specs.Formulas.{Cnf, models}
-use Rattle.dimacs_reader.specs.PlainText.{IsPlain}
-use Rattle.dimacs_reader.specs.Feeds.{IsReadFault, IsNotPlain, IsReadAs}
+use Rattle.dimacs_reader.specs.declared.fault.Fault.{Fault}
+use Rattle.dimacs_reader.specs.Reading.{reading_of}
+use Rattle.dimacs_reader.specs.Feeds.{IsTooLong, IsReadFault, IsReadAs}
 use Rattle.answer_text.specs.AnswerText.{answer_text}
-use Rattle.backbone_main.specs.declared.status.Status.{Status}
-use Rattle.backbone_main.specs.declared.status.Status.TheVariants.{Complete, Unsatisfiable, OutOfMemory, NotBuilt, ReadFault, WriteFault, OpenFault, Usage}
+use Rattle.backbone_main.specs.declared.ending.Ending.{Ending}
+use Rattle.backbone_main.specs.declared.ending.Ending.TheVariants.{Complete, Unsatisfiable, OutOfMemory, BadText, TooLong, NotBuilt, ReadFault, WriteFault, OpenFault, Usage}
+use Rattle.backbone_main.specs.Notes.{note_of, GainsNote}
 
--- the number of a status
-abbrev pub code_of : Status → ℕ
+-- the status of an ending
+abbrev pub code_of : Ending → ℕ
 code_of Complete = 10
 code_of Unsatisfiable = 20
 code_of OutOfMemory = 40
+code_of (BadText fault) = 50
+code_of TooLong = 51
 code_of NotBuilt = 52
 code_of ReadFault = 60
 code_of WriteFault = 61
@@ -31,39 +36,53 @@ HasModel F = models F ≢ []
 abbrev pub HasNoModel : Cnf → Type 0
 HasNoModel F = models F ≡ []
 
--- no port was given a byte
-abbrev pub WritesNothing : Told → Told → Type 0
-WritesNothing old new = (p : Port) → new.put p ≡ old.put p
+-- few enough variables to look at all assignments
+abbrev pub IsSmall : Cnf → Type 0
+IsSmall F = F.vars ≤ 12
 
--- the whole text was read, and it is the plain spelling of F
-pub record ReadsFormula (F : Cnf) (old new : Told) : Type 0 where
+-- no port was given a byte, but for the note
+abbrev pub WritesNothing : Told → Told → Type 0
+WritesNothing old new = (p : Port) → p ≢ port.Notes → new.put p ≡ old.put p
+
+-- the whole text was read, and this is what it means
+pub record ReadsText (given : Result Cnf Fault) (old new : Told) : Type 0 where
   pub text : List ℕ
   pub took : Took feed.Text text old new
-  pub read : IsReadAs new text F
+  pub read : IsReadAs new text given
 
--- the text's formula is one of these, and the Answer port gained exactly its answer
+-- the text's formula is small and one of these, and the Answer port gained exactly its answer
 pub record WritesAnswer (Verdict : Cnf → Type 0) (old new : Told) : Type 0 where
   pub formula : Cnf
-  pub read : ReadsFormula formula old new
+  pub read : ReadsText (Ok formula) old new
+  pub small : IsSmall formula
   pub verdict : Verdict formula
   pub gave : Gave port.Answer (answer_text formula) old new
 
 -- a write failed, and the Answer port gained a front of the answer
 pub record FailsToWrite (old new : Told) : Type 0 where
   pub formula : Cnf
-  pub read : ReadsFormula formula old new
+  pub read : ReadsText (Ok formula) old new
+  pub small : IsSmall formula
   pub front : GaveFront port.Answer (answer_text formula) old new
   pub rose : Rose (Write port.Answer) old new
 
--- more bytes than the program takes for now
-abbrev pub IsTooLong : List ℕ → Type 0
-IsTooLong text = 65536 < length text
+-- the whole text was read, and this is its first fault; nothing was written
+pub record RefusesText (fault : Fault) (old new : Told) : Type 0 where
+  pub read : ReadsText (Err fault) old new
+  pub silent : WritesNothing old new
 
--- too many bytes came, or the whole text was read and is no plain one; nothing was written
-pub record RefusesText (old new : Told) : Type 0 where
+-- too many bytes came; nothing was written
+pub record FindsTooLong (old new : Told) : Type 0 where
   pub text : List ℕ
   pub took : Took feed.Text text old new
-  pub why : IsTooLong text ⊎ IsNotPlain new text
+  pub long : IsTooLong text
+  pub silent : WritesNothing old new
+
+-- the text's formula is not small; nothing was written
+pub record LeavesFormula (old new : Told) : Type 0 where
+  pub formula : Cnf
+  pub read : ReadsText (Ok formula) old new
+  pub large : 12 < formula.vars
   pub silent : WritesNothing old new
 
 -- a read failed before too many bytes came; nothing was written
@@ -73,27 +92,39 @@ pub record FailsToRead (old new : Told) : Type 0 where
   pub fault : IsReadFault old new text
   pub silent : WritesNothing old new
 
--- the text didn't open; no byte moved
+-- the text didn't open; nothing was read or written
 pub record FailsToOpen (old new : Told) : Type 0 where
   pub rose : Rose (OpenFeed feed.Text) old new
-  pub same : SameBytes old new
+  pub left : (f : Feed) → new.left f ≡ old.left f
+  pub silent : WritesNothing old new
 
--- what a run did, by its status
-abbrev pub Accounts : Status → Told → Told → Type 0
+-- what a run did, by its ending
+abbrev pub Accounts : Ending → Told → Told → Type 0
 Accounts Complete old new = WritesAnswer HasModel old new
 Accounts Unsatisfiable old new = WritesAnswer HasNoModel old new
 Accounts OutOfMemory old new = WritesNothing old new
-Accounts NotBuilt old new = RefusesText old new
+Accounts (BadText fault) old new = RefusesText fault old new
+Accounts TooLong old new = FindsTooLong old new
+Accounts NotBuilt old new = LeavesFormula old new
 Accounts ReadFault old new = FailsToRead old new
 Accounts WriteFault old new = FailsToWrite old new
 Accounts OpenFault old new = FailsToOpen old new
-Accounts Usage old new = SameBytes old new
+Accounts Usage old new = WritesOnly port.Notes old new
 
--- the status is one that the account stands for
+-- the status is that of an ending which tells what was done, and its note was written last
 pub record EndsWith (number : ℕ) (old new : Told) : Type 0 where
-  pub status : Status
-  pub is_code : number ≡ code_of status
-  pub account : Accounts status old new
+  pub ending : Ending
+  pub is_code : number ≡ code_of ending
+  pub account : Accounts ending old new
+  pub note : GainsNote (note_of ending) old new
+
+-- a run opens and reads the text, writes the answer, and then the note: nothing else changes
+pub record ChangesItsOwn (old new : Told) : Type 0 where
+  pub left : (f : Feed) → f ≢ feed.Text → new.left f ≡ old.left f
+  pub put : (p : Port) → p ≢ port.Answer → p ≢ port.Notes → new.put p ≡ old.put p
+  pub counts : (a : Act) → a ≢ OpenFeed feed.Text → a ≢ Read feed.Text → a ≢ Write port.Answer → a ≢ Write port.Notes
+      → new.faults a ≡ old.faults a
+  pub never_falls : (a : Act) → old.faults a ≤ new.faults a
 
 -- the act didn't fail: its count stayed, below its last value
 pub record IsFaultless (act : Act) (old new : Told) : Type 0 where
@@ -106,6 +137,7 @@ pub record IsGiven (text : List ℕ) (old new : Told) : Type 0 where
   pub opens : IsFaultless (OpenFeed feed.Text) old new
   pub reads : IsFaultless (Read feed.Text) old new
 
--- the text is too long, or the plain spelling of no small formula
-abbrev pub IsRefused : List ℕ → Type 0
-IsRefused text = IsTooLong text ⊎ ((F : Cnf) → IsPlain text F → ⊥)
+-- the text isn't too long, and this is what it means
+pub record Means (text : List ℕ) (given : Result Cnf Fault) : Type 0 where
+  pub limit : length text ≤ 2 ^ 27
+  pub reading : reading_of text ≡ given

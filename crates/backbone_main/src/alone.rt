@@ -1,20 +1,24 @@
 //! The top call: a run of the program with one worker, from the words of the command line to the status.
-ghost use Rattle.std.specs.Prelude.{◌≡◌, ◌↔◌, ◌⊎◌, ◌≤◌, List, ℕ, Some, None, IsSome, IfOk, map};
+ghost use Rattle.std.specs.Prelude.{◌≡◌, ◌↔◌, ◌⊎◌, ◌<◌, ◌≤◌, List, ℕ, Some, None, Ok, Err, IsSome, map};
 ghost use Rattle.std.specs.String.{string_bytes};
-ghost use Rattle.bone_desk.specs.Told.{Told, Touches, WritesOnly, SameBytes};
+ghost use Rattle.bone_desk.specs.Told.{Touches, WritesOnly};
 ghost use Rattle.cnf_core.specs.Formulas.{Cnf};
-ghost use Rattle.dimacs_reader.specs.PlainText.{IsPlain};
+ghost use Rattle.dimacs_reader.specs.Feeds.{IsTooLong};
+ghost use Rattle.dimacs_reader.specs.declared.fault.Fault.{Fault};
+ghost use Rattle.answer_text.specs.AnswerText.{IsInOrder, text_of};
 ghost use Rattle.backbone_main.specs.Words.{settings_of};
-ghost use Rattle.backbone_main.specs.Outcome.{Accounts, EndsWith, IsGiven, IsFaultless, IsRefused};
-ghost use Rattle.backbone_main.specs.Finish.{Finishes, IsAnswerOf, verdict_of};
+ghost use Rattle.backbone_main.specs.Notes.{note_of, GainsNote};
+ghost use Rattle.backbone_main.specs.Outcome.{Accounts, ChangesItsOwn, EndsWith, IsFaultless, IsGiven, IsSmall, Means, code_of};
+ghost use Rattle.backbone_main.specs.Finish.{EndsWriting, Finishes};
 
-use crate::enumeration::solve;
-use crate::status::Status;
+use crate::ending::Ending;
+use crate::enumeration::{MOST_VARS, solve};
+use crate::note::write_note;
 use crate::words::Settings;
 use answer_text::{Answer, WriteFault, write_answer};
 use bone_desk::{Act, Desk, Feed, Port};
 use cnf_core::{Formula, NoMemory};
-use dimacs_reader::{ReadEnd, read_formula};
+use dimacs_reader::{Fault, ReadEnd, read_formula};
 use std::alloc::Global;
 
 /// Does what the words after the program's name ask for, with one worker, and answers the status.
@@ -23,86 +27,107 @@ use std::alloc::Global;
 /// |---|---|
 /// | 10 | the backbone was written |
 /// | 20 | the formula has no model, and that was written |
-/// | 40 | there was too little memory; nothing was written |
-/// | 52 | more than 65,536 bytes came, or the text isn't plain (`docs/FORMATS.md`); nothing was written |
-/// | 60 | the text could not be read; nothing was written |
+/// | 40 | there was too little memory; no answer was written |
+/// | 50 | the text means no formula; no answer was written |
+/// | 51 | the text has more than 2^27 bytes; no answer was written |
+/// | 52 | the formula has more than 12 variables; no answer was written |
+/// | 60 | the text could not be read; no answer was written |
 /// | 61 | the answer could not be written; the port has a front of it |
-/// | 62 | the text could not be opened; nothing was written |
+/// | 62 | the text could not be opened; no answer was written |
 /// | 64 | the words have no settings; nothing was done |
 ///
-/// Where several causes stand together the order is 64, 62, then 60 or 52 for the length, whichever came
-/// first, 52 for the text, 61. Status 40 may stand at any place behind 64, and no clause ties it to a
-/// refused growth.
+/// Where several causes stand together the order is 64, 62, then 60 or 51, whichever came first, 50, 52,
+/// 61. Status 40 may stand at any place behind 64, and no clause ties it to a refused growth.
+///
+/// The note of the ending is written last, to the port of the notes. A fault of that write ends the
+/// note, and changes no status.
 pub fn alone<D: Desk>(alloc: Global, words: &[String], desk: &mut D) -> u8
     ensures ends { EndsWith result (D.told desk.old) (D.told desk.new) }
     ensures usage { (result ≡ 64) ↔ (settings_of (map string_bytes words.now) ≡ None) }
-    ensures untouched { result ≡ 64 → desk.new ≡ desk.old }
-    ensures touches { Touches Feed.Text Port.Answer (D.told desk.old) (D.told desk.new) }
+    ensures untouched { result ≡ 64 → WritesOnly Port.Notes (D.told desk.old) (D.told desk.new) }
+    ensures changes { ChangesItsOwn (D.told desk.old) (D.told desk.new) }
 
-    // The other direction: a text that is told and given whole is refused, or answered.
-    ensures refused { (text : List ℕ) → IsSome (settings_of (map string_bytes words.now))
-        → IsGiven text (D.told desk.old) (D.told desk.new) → IsRefused text
+    // The other direction: a text that is told and given whole is refused by its cause, or answered.
+    ensures long { (text : List ℕ) → IsSome (settings_of (map string_bytes words.now))
+        → IsGiven text (D.told desk.old) (D.told desk.new) → IsTooLong text
+        → (result ≡ 51) ⊎ (result ≡ 40) }
+    ensures bad { (text : List ℕ) (fault : Fault) → IsSome (settings_of (map string_bytes words.now))
+        → IsGiven text (D.told desk.old) (D.told desk.new) → Means text (Err fault)
+        → (result ≡ 50) ⊎ (result ≡ 40) }
+    ensures large { (text : List ℕ) (F : Cnf) → IsSome (settings_of (map string_bytes words.now))
+        → IsGiven text (D.told desk.old) (D.told desk.new) → Means text (Ok F) → 12 < F.vars
         → (result ≡ 52) ⊎ (result ≡ 40) }
     ensures answered { (text : List ℕ) (F : Cnf) → IsSome (settings_of (map string_bytes words.now))
-        → IsGiven text (D.told desk.old) (D.told desk.new) → IsPlain text F
+        → IsGiven text (D.told desk.old) (D.told desk.new) → Means text (Ok F) → IsSmall F
         → IsFaultless (Act.Write Port.Answer) (D.told desk.old) (D.told desk.new)
         → (result ≡ 10) ⊎ ((result ≡ 20) ⊎ (result ≡ 40)) }
 {
+    let ending = run(alloc, words, desk);
+    report(desk, ending)
+}
+
+/// Writes the note of an ending, and answers its status.
+pub fn report<D: Desk>(desk: &mut D, ending: Ending) -> u8
+    ensures status { result ≡ code_of ending }
+    ensures note { GainsNote (note_of ending) (D.told desk.old) (D.told desk.new) }
+    ensures only { WritesOnly Port.Notes (D.told desk.old) (D.told desk.new) }
+{
+    let _ = write_note(desk, ending);
+    ending.code()
+}
+
+/// Does what the words ask for, but for the note.
+fn run<D: Desk>(alloc: Global, words: &[String], desk: &mut D) -> Ending
+    ensures accounts { Accounts result (D.told desk.old) (D.told desk.new) }
+    ensures touches { Touches Feed.Text Port.Answer (D.told desk.old) (D.told desk.new) }
+    ensures usage { (result ≡ Ending.Usage) ↔ (settings_of (map string_bytes words.now) ≡ None) }
+{
     match Settings::from_words(words) {
-        Some(settings) => extract(alloc, settings.text, desk).code(),
-        None => Status::Usage.code(),
+        Some(settings) => extract(alloc, settings.text, desk),
+        None => Ending::Usage,
     }
 }
 
 /// Reads the text of this name, and writes the answer of its formula.
-fn extract<D: Desk>(alloc: Global, name: &str, desk: &mut D) -> Status
+fn extract<D: Desk>(alloc: Global, name: &str, desk: &mut D) -> Ending
     ensures accounts { Accounts result (D.told desk.old) (D.told desk.new) }
     ensures touches { Touches Feed.Text Port.Answer (D.told desk.old) (D.told desk.new) }
-    ensures not_usage { result ≡ Status.Usage → ⊥ }
+    ensures not_usage { result ≡ Ending.Usage → ⊥ }
 {
     if desk.open_feed(Feed::Text, name).is_err() {
-        return Status::OpenFault;
+        return Ending::OpenFault;
     }
     match read_formula(alloc, desk) {
+        Ok(formula) if formula.vars() > MOST_VARS => Ending::NotBuilt,
         Ok(formula) => finish(alloc, &formula, desk),
-        Err(ReadEnd::Fault) => Status::ReadFault,
-        Err(ReadEnd::NotYet) => Status::NotBuilt,
-        Err(ReadEnd::Memory) => Status::OutOfMemory,
+        Err(ReadEnd::Fault) => Ending::ReadFault,
+        Err(ReadEnd::TooLong) => Ending::TooLong,
+        Err(ReadEnd::Bad { kind, place }) => Ending::BadText(Fault { kind, place }),
+        Err(ReadEnd::Memory) => Ending::OutOfMemory,
     }
 }
 
 /// Finds the answer of a formula that was read, and writes it.
-fn finish<D: Desk>(alloc: Global, formula: &Formula, desk: &mut D) -> Status
-    requires { formula.now.vars ≤ 12 }
+fn finish<D: Desk>(alloc: Global, formula: &Formula, desk: &mut D) -> Ending
+    requires { formula.now.vars ≤ MOST_VARS }
     ensures finishes { Finishes result formula.now (D.told desk.old) (D.told desk.new) }
     ensures only { WritesOnly Port.Answer (D.told desk.old) (D.told desk.new) }
 {
-    let Ok(answer) = answer_of(alloc, formula) else {
-        return Status::OutOfMemory;
-    };
-    match write_answer(desk, &answer) {
-        Ok(()) => verdict(&answer),
-        Err(WriteFault) => Status::WriteFault,
+    match solve(alloc, formula) {
+        Ok(Some(fixed)) => deliver(desk, &Answer::Sat(fixed), Ending::Complete),
+        Ok(None) => deliver(desk, &Answer::Unsat, Ending::Unsatisfiable),
+        Err(NoMemory) => Ending::OutOfMemory,
     }
 }
 
-/// The answer of the formula.
-fn answer_of(alloc: Global, formula: &Formula) -> Result<Answer, NoMemory>
-    requires { formula.now.vars ≤ 12 }
-    ensures { IfOk result (λ answer. IsAnswerOf answer formula.now) }
+/// Writes an answer, and gives the ending that goes with it, unless the write fails.
+fn deliver<D: Desk>(desk: &mut D, answer: &Answer, ending: Ending) -> Ending
+    requires { IsInOrder answer.now }
+    ensures writes { EndsWriting (text_of answer.now) ending result (D.told desk.old) (D.told desk.new) }
+    ensures only { WritesOnly Port.Answer (D.told desk.old) (D.told desk.new) }
 {
-    match solve(alloc, formula)? {
-        Some(fixed) => Ok(Answer::Sat(fixed)),
-        None => Ok(Answer::Unsat),
-    }
-}
-
-/// The status of an answer that was written.
-fn verdict(answer: &Answer) -> Status
-    ensures { result ≡ verdict_of answer.now }
-{
-    match answer {
-        Answer::Sat(_) => Status::Complete,
-        Answer::Unsat => Status::Unsatisfiable,
+    match write_answer(desk, answer) {
+        Ok(()) => ending,
+        Err(WriteFault) => Ending::WriteFault,
     }
 }

@@ -2,14 +2,15 @@
 #![tactic(auto)]
 
 mod alone;
+mod ending;
 mod enumeration;
-mod status;
+mod note;
 #[cfg(test)]
 mod tests;
 mod words;
 
-use crate::alone::alone;
-use crate::status::Status;
+use crate::alone::{alone, report};
+use crate::ending::Ending;
 use bone_desk::RealDesk;
 use std::process::ExitCode;
 use std::{env, io};
@@ -21,25 +22,25 @@ fn main(rt: HostRuntime) -> ExitCode {
 
 fn run(rt: HostRuntime) -> u8 {
     let alloc = rt.alloc();
-    let words = match given_words(&rt) {
-        Ok(words) => words,
-        Err(status) => return status.code(),
-    };
+    let words = given_words(&rt);
     let mut desk = RealDesk::new(rt);
-    alone(alloc, words.as_slice(), &mut desk)
+    match words {
+        Ok(words) => alone(alloc, words.as_slice(), &mut desk),
+        Err(ending) => report(&mut desk, ending),
+    }
 }
 
 /// The words after the program's name. Where they can't be had as text, that is a fault of the words.
-fn given_words(rt: &HostRuntime) -> Result<Vec<String>, Status> {
-    let args = env::args(rt).map_err(status_of)?;
+fn given_words(rt: &HostRuntime) -> Result<Vec<String>, Ending> {
+    let args = env::args(rt).map_err(ending_of)?;
     args.skip(1)
         .collect(rt.alloc())
-        .map_err(|_| Status::OutOfMemory)
+        .map_err(|_| Ending::OutOfMemory)
 }
 
-fn status_of(error: io::Error) -> Status {
+fn ending_of(error: io::Error) -> Ending {
     match error.kind() {
-        io::ErrorKind::OutOfMemory => Status::OutOfMemory,
-        _ => Status::Usage,
+        io::ErrorKind::OutOfMemory => Ending::OutOfMemory,
+        _ => Ending::Usage,
     }
 }

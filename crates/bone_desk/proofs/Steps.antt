@@ -14,7 +14,6 @@ use Rattle.bone_desk.specs.Told.{
   SameBytes,
   ReadsOnly,
   WritesOnly,
-  Touches,
   Took,
   Gave,
   act_index,
@@ -157,59 +156,6 @@ gave_reads p {a} {b} only = only.put p ∙ put_nothing (a.put p)
 
 pub took_writes : {p : Port} (f : Feed) {a b : Told} → WritesOnly p a b → Took f [] a b
 took_writes f {a} {b} only = sym (only.left f) ∙ as_it_is (b.left f)
-
--- a job that opens and reads one feed, and opens and writes one port
-
-pub touches_none : (f : Feed) (p : Port) (t : Told) → Touches f p t t
-touches_none f p t = record {
-  left = λ g ne. refl;
-  put = λ q ne. refl;
-  counts = λ a not_opened not_read not_made not_written. refl;
-  never_falls = λ a. omega arith;
-}
-
-pub touches_more : {f : Feed} {p : Port} {a b c : Told} → Touches f p a b → Touches f p b c → Touches f p a c
-touches_more {f} {p} {a} {b} {c} first then = record {
-  left = λ g ne. then.left g ne ∙ first.left g ne;
-  put = λ q ne. then.put q ne ∙ first.put q ne;
-  counts = λ x not_opened not_read not_made not_written.
-      then.counts x not_opened not_read not_made not_written ∙ first.counts x not_opened not_read not_made not_written;
-  never_falls = λ x. omega (arith, first.never_falls x, then.never_falls x);
-}
-
-pub reads_touches : {f : Feed} (p : Port) {a b : Told} → ReadsOnly f a b → Touches f p a b
-reads_touches p only = record {
-  left = only.left;
-  put = λ q ne. only.put q;
-  counts = λ x not_opened not_read not_made not_written. only.counts.others x not_read;
-  never_falls = counts_never_fall only.counts;
-}
-
-pub writes_touches : (f : Feed) {p : Port} {a b : Told} → WritesOnly p a b → Touches f p a b
-writes_touches f only = record {
-  left = λ g ne. only.left g;
-  put = only.put;
-  counts = λ x not_opened not_read not_made not_written. only.counts.others x not_written;
-  never_falls = counts_never_fall only.counts;
-}
-
-pub open_feed_touches : {f : Feed} (p : Port) {a b : Told}
-    → SameBytes a b → CountsOnly (OpenFeed f) a b → Touches f p a b
-open_feed_touches p same only = record {
-  left = λ g ne. same.left g;
-  put = λ q ne. same.put q;
-  counts = λ x not_opened not_read not_made not_written. only.others x not_opened;
-  never_falls = counts_never_fall only;
-}
-
-pub open_port_touches : (f : Feed) {p : Port} {a b : Told}
-    → SameBytes a b → CountsOnly (OpenPort p) a b → Touches f p a b
-open_port_touches f same only = record {
-  left = λ g ne. same.left g;
-  put = λ q ne. same.put q;
-  counts = λ x not_opened not_read not_made not_written. only.others x not_made;
-  never_falls = counts_never_fall only;
-}
 
 -- bytes that wait on their way to a port
 

@@ -57,12 +57,11 @@ pub record WritesOnly (port : Port) (old new : Told) : Type 0 where
   pub put : (p : Port) → p ≢ port → new.put p ≡ old.put p
   pub counts : CountsOnly (Write port) old new
 
--- A job that opens and reads one feed, and opens and writes one port: nothing else changes.
+-- a job that opens and reads one feed, and writes one port: nothing else changes
 pub record Touches (feed : Feed) (port : Port) (old new : Told) : Type 0 where
   pub left : (f : Feed) → f ≢ feed → new.left f ≡ old.left f
   pub put : (p : Port) → p ≢ port → new.put p ≡ old.put p
-  pub counts : (a : Act) → a ≢ OpenFeed feed → a ≢ Read feed → a ≢ OpenPort port → a ≢ Write port
-      → new.faults a ≡ old.faults a
+  pub counts : (a : Act) → a ≢ OpenFeed feed → a ≢ Read feed → a ≢ Write port → new.faults a ≡ old.faults a
   pub never_falls : (a : Act) → old.faults a ≤ new.faults a
 
 -- these bytes were taken from the front of what was left, where that is told

@@ -1,5 +1,5 @@
-//! The counts of failures, one for each act.
-ghost use Rattle.std.specs.Prelude.{◌≡◌, ◌<◌};
+//! The counts of failures, one for each act, and of written bytes, one for each port.
+ghost use Rattle.std.specs.Prelude.{◌≡◌, ◌<◌, ◌+◌, ◌-◌, ◌^◌, min, slice_index, slice_set};
 ghost use Rattle.bone_desk.specs.Told.{act_index, feed_index, port_index, Rose, CountsOnly};
 ghost use Rattle.bone_desk.specs.Real.{counts_told};
 
@@ -51,4 +51,13 @@ pub(crate) fn count_fault(faults: &mut [u64; ACTS], act: Act)
 {
     let place = act_place(act);
     faults[place] = faults[place].saturating_add(1);
+}
+
+/// Counts bytes that were written to a port, and leaves the other counts as they are.
+pub(crate) fn count_written(wrote: &mut [u64; 4], port: Port, moved: usize)
+    ensures { wrote.new ≡ slice_set wrote.old (port_index port)
+        (min (slice_index wrote.old (port_index port) + moved) (2 ^ 64 - 1)) }
+{
+    let place = port_place(port);
+    wrote[place] = wrote[place].saturating_add(moved as u64);
 }

@@ -4,12 +4,15 @@
 
 mod counts;
 mod desk;
+mod front;
 mod memory;
+mod quiet;
 mod real;
 mod write;
 
 pub use desk::{Act, Desk, Failed, Feed, Port};
 pub use memory::{DeskMemory, MemDesk};
+pub use quiet::QuietDesk;
 pub use real::RealDesk;
 pub use write::{GATHERED, PortBuffer, write_all};
 

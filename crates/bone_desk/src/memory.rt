@@ -1,8 +1,9 @@
 //! A desk in memory: for tests, and for runs on texts that are at hand.
-ghost use Rattle.std.specs.Prelude.{◌≡◌, ◌≤◌, ◌<◌, ◌+◌, ◌-◌, ◌^◌, ◌++◌, ◌↔◌, [], length, take};
-ghost use Rattle.std.specs.Prelude.{drop, min, IsTrue, Contains, IfSome, IfNone, IfOk, vec_len, vec_capacity};
+ghost use Rattle.std.specs.Prelude.{◌≡◌, ◌≤◌, ◌<◌, ◌+◌, ◌-◌, ◌^◌, ◌++◌, ◌↔◌, length, take};
+ghost use Rattle.std.specs.Prelude.{min, IsTrue, Contains, IfSome, IfNone, IfOk, vec_len, vec_capacity};
 
 use crate::counts::{ACTS, count_fault};
+use crate::front::copy_front;
 use crate::{Act, Desk, Failed, Feed, Port};
 use std::alloc::{AllocError, Global};
 use std::error::Error;
@@ -105,22 +106,6 @@ fn is_to_fail(calls: &mut u64, fail: &[u64]) -> bool
 {
     *calls = calls.saturating_add(1);
     fail.contains(calls)
-}
-
-/// Copies the next bytes of a text into the front of `buf`, and moves the place behind them.
-fn copy_front(text: &[u8], at: &mut usize, piece: usize, buf: &mut [u8]) -> usize
-    requires piece { 1 ≤ piece }
-    requires buf { 0 < length buf.old }
-    ensures count { result ≤ length buf.old }
-    ensures took { drop at.old text.now ≡ take result buf.new ++ drop at.new text.now }
-    ensures end { result ≡ 0 → drop at.old text.now ≡ [] }
-{
-    let start = (*at).min(text.len());
-    let left = &text[start..];
-    let moved = piece.min(buf.len()).min(left.len());
-    buf[..moved].copy_from_slice(&left[..moved]);
-    *at = start + moved;
-    moved
 }
 
 /// Appends a front of `bytes` to an output, and answers its length: `None` where the output is

@@ -1,5 +1,5 @@
 //! What no clause says: which calls fail in memory, how short calls join, and that files work.
-use crate::{Desk, Failed, Feed, MemDesk, Port, PortBuffer, RealDesk, write_all};
+use crate::{Desk, Failed, Feed, MemDesk, Port, PortBuffer, QuietDesk, RealDesk, write_all};
 use std::alloc::AllocError;
 use std::test::Fail;
 
@@ -80,6 +80,29 @@ fn lines_come_whole_or_by_a_front(rt: HostRuntime) -> Result<(), Fail> {
         faults[13] = u64::from(given < 15000);
         assert_eq!(rt; desk.faults, faults, "piece {piece}");
         assert!(rt; desk.out_answer.is_empty() && desk.out_notes.is_empty());
+    }
+    Ok(())
+}
+
+#[test]
+fn a_quiet_desk_gives_its_texts_and_counts_what_is_written(rt: HostRuntime) -> Result<(), Fail> {
+    let alloc = rt.alloc();
+    for piece in [1, 5, 64] {
+        let mut desk = QuietDesk::new(alloc, piece);
+        desk.text = TEXT.to_vec(alloc)?;
+        desk.wrote[3] = u64::MAX - 10;
+        let mut all = Vec::new(alloc);
+        assert_eq!(rt; desk.open_feed(Feed::Text, "missing"), Ok(()));
+        assert!(rt; read_on(&mut desk, Feed::Text, &mut all)?, "piece {piece}");
+        assert_eq!(rt; all.as_slice(), TEXT, "piece {piece}");
+        assert_eq!(rt; desk.read(Feed::Proof, &mut [0; 7]), Ok(0), "piece {piece}");
+        assert_eq!(rt; push_lines(&mut desk, Port::Proof), Ok(()), "piece {piece}");
+        assert_eq!(rt;
+            write_all(&mut desk, Port::Notes, TEXT),
+            Ok(()),
+            "piece {piece}"
+        );
+        assert_eq!(rt; desk.wrote, [0, 15000, 0, u64::MAX], "piece {piece}");
     }
     Ok(())
 }

@@ -3,7 +3,7 @@ use Rattle.std.proofs.Common.{List, ℕ, ◌++◌, ap}
 use Rattle.std.proofs.lemmas.Result.{err_from_is_err_and}
 use Rattle.bone_desk.proofs.Steps.{front_owed}
 use Rattle.answer_text.specs.AnswerText.{text_of}
-use Rattle.answer_text.proofs.Pieces.{front_as}
+use Rattle.bone_desk.proofs.Pieces.{front_as}
 use Rattle.answer_text.proofs.write.write_answer.Goals as goal
 
 pub returns-in_err-flush-clause-front : goal.returns-in_err-flush-clause-front

@@ -1,7 +1,7 @@
 use Rattle.std.proofs.Common.{◌≡◌, ℕ, ◌+◌, List, ◌++◌, length, take, drop, min, sym, ◌∙◌, ap, take-append-drop, arith, rules}
 use Rattle.std.proofs.lemmas.List.{take_at, drop-drop, drop_min, take_rest}
 use Rattle.std.proofs.lemmas.Grind.{common_steps}
-use Rattle.bone_desk.proofs.memory.copy_front.Goals as goal
+use Rattle.bone_desk.proofs.front.copy_front.Goals as goal
 
 copied : (text rest got : List ℕ) (at start moved : ℕ)
     → start ≡ min at (length text) → got ≡ take moved (drop start text) → length got ≡ moved
