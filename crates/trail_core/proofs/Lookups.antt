@@ -1,11 +1,13 @@
 -- What the tables of a trail say.
 use Rattle.std.proofs.Common.{◌≡◌, ◌≢◌, ℕ, zero, suc, ℤ, ◌+◌, ◌-◌, ◌*◌, ◌<◌, ◌≤◌, Bool, true, false, List, length, get_or, set, pos, refl, sym, ap, ◌∙◌, subst, ⊎_elim, arith}
 use Rattle.std.proofs.lemmas.List.{get_or_read, length-set, get_or-set_same, get_or-set_other}
+use Rattle.std.specs.List.{sum_by}
+use Rattle.std.proofs.lemmas.List.Sums.{get_or-le-sum_by}
 use Rattle.std.proofs.lemmas.Bool.{cases_lt, cases_eq}
 use Rattle.cnf_core.specs.Literals.{Literal, code_of, IsWithin}
 use Rattle.trail_core.specs.declared.entry.Assigned.{Assigned}
 use Rattle.trail_core.specs.Trails.{no_entry, sign_of, assigned_at, HasLiteral, HasVariable, IsFree, IsLeveled, TrailState, IsTrail, IsFirstFree}
-use Rattle.trail_core.specs.Tables.{IsPlaced, IsHeld, state_of}
+use Rattle.trail_core.specs.Tables.{blank, IsPlaced, IsHeld, state_of}
 use Rattle.trail_core.proofs.Literals.{code_le}
 
 pub code_within : (n : ℕ) (l : Literal) → IsWithin n l → code_of l < 2 * n + 2
@@ -47,6 +49,15 @@ pub literal_read : (n : ℕ) (es : List Assigned) (ps : List ℕ) (ts : List Boo
     → HasLiteral es l → get_or ts (code_of l) false ≡ true
 literal_read n es ps ts l p h = ap (λ m. get_or ts (code_of m) false) (sym h.lit) ∙ p.true_at h.place h.within
 
+-- there is no more than one entry a variable, since no entry stands at the place of variable 0
+few_entries : (n : ℕ) (es : List Assigned) (ps : List ℕ) (ts : List Bool) → IsPlaced n es ps ts → length es ≤ n
+few_entries n es ps ts p =
+    let none : IsFree es 0 = λ k within is. omega (arith, (p.within k within).low, is) in
+    let here : get_or ps 0 0 ≡ 0 = blank_of_free n es ps ts 0 p none in
+    let one : blank (get_or ps 0 0) ≡ 1 = ap blank here in
+    let some : blank (get_or ps 0 0) ≤ sum_by blank ps = get_or-le-sum_by blank ps 0 0 (omega (arith, p.places_count)) in
+    omega (arith, p.blanks)
+
 -- what holds of every trail
 pub trail_is : (t : TrailState) (ps : List ℕ) (ts : List Bool) (ss : List ℤ) (f c : ℕ)
     → IsHeld t ps ts ss f c → IsTrail t
@@ -60,6 +71,7 @@ trail_is t ps ts ss f c h = record {
       omega (arith, a, b, e);
   leveled = h.leveled;
   gone = h.gone;
+  few = few_entries t.vars t.entries ps ts h.placed;
 }
 
 -- the present level is at most the number of entries

@@ -52,6 +52,7 @@ pub record IsTrail (t : TrailState) : Type 0 where
       → (assigned_at t.entries j).lit.var ≡ (assigned_at t.entries k).lit.var → j ≡ k
   pub leveled : IsLeveled t.entries t.level
   pub gone : t.gone ≤ length t.entries
+  pub few : length t.entries ≤ t.vars
 
 -- the trail without entries
 abbrev pub empty_trail : ℕ → TrailState

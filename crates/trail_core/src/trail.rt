@@ -223,6 +223,16 @@ impl Trail {
         self.entries[self.places[var as usize] as usize - 1].reason
     }
 
+    /// The place of a variable's entry, from 0. The variable has a value.
+    pub fn place_of(&self, var: u32) -> u32
+        requires { HasVariable self.now.entries var }
+        ensures place { (k : ℕ) → k < length self.now.entries → (assigned_at self.now.entries k).lit.var ≡ var
+            → result ≡ k }
+        ensures trail { IsTrail self.now }
+    {
+        self.places[var as usize] - 1
+    }
+
     /// The present level: how many decisions are on the trail.
     pub fn level(&self) -> u32
         ensures value { result ≡ self.now.level }

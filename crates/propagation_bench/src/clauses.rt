@@ -1,0 +1,63 @@
+ghost use Rattle.std.specs.Prelude.{◌≢◌, ℕ, ◌<◌, ◌≤◌, ◌^◌, IfOk, IsTrue, OnOk};
+ghost use Rattle.cnf_core.specs.Literals.{IsWithin};
+ghost use Rattle.watch_lists.specs.Clauses.{AreClean};
+
+use crate::numbers::Numbers;
+use clause_arena::Arena;
+use cnf_core::{Lit, NoMemory};
+use std::alloc::Global;
+
+/// A random literal of the variables 1 to so many.
+pub fn literal(vars: u32, numbers: &mut Numbers) -> Lit
+    requires { (0 < vars) × (vars ≤ 2 ^ 20) }
+    ensures { IsWithin vars result }
+{
+    let var = 1 + numbers.next() % vars;
+    Lit::new(var, numbers.next() % 2 == 0)
+}
+
+/// Random clauses of three literals. Of so many draws, those with a variable twice are left out.
+pub fn random_clauses(
+    alloc: Global,
+    vars: u32,
+    draws: u32,
+    numbers: &mut Numbers,
+) -> Result<Arena, NoMemory>
+    requires { (0 < vars) × (vars ≤ 2 ^ 20) }
+    ensures { IfOk result (λ a. AreClean vars a) }
+{
+    let mut arena = Arena::new(alloc);
+    for id in 0..draws {
+        let first = literal(vars, numbers);
+        let second = literal(vars, numbers);
+        let third = literal(vars, numbers);
+        add_three(&mut arena, first, second, third, id)?;
+    }
+    Ok(arena)
+}
+
+/// Adds a clause of three literals, unless a variable stands in it twice.
+fn add_three(
+    arena: &mut Arena,
+    first: Lit,
+    second: Lit,
+    third: Lit,
+    id: u32,
+) -> Result<(), NoMemory>
+    ensures { OnOk result ((n : ℕ) → AreClean n arena.old → IsWithin n first → IsWithin n second → IsWithin n third
+        → AreClean n arena.new) }
+{
+    if !are_apart(first, second, third) {
+        return Ok(());
+    }
+    let lits = [first, second, third];
+    arena.add(&lits, u64::from(id), false)?;
+    Ok(())
+}
+
+/// Whether the three variables differ.
+fn are_apart(first: Lit, second: Lit, third: Lit) -> bool
+    ensures { IsTrue result → (first.var ≢ second.var) × (first.var ≢ third.var) × (second.var ≢ third.var) }
+{
+    first.var() != second.var() && first.var() != third.var() && second.var() != third.var()
+}

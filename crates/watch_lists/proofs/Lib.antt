@@ -1,0 +1,10 @@
+pub mod Viewed
+pub mod Orders
+pub mod Fronts
+pub mod Attached
+pub mod Visited
+pub mod Turns
+pub mod Rebuilt
+pub mod QuietTrails
+pub mod Kept
+pub mod CleanClauses

@@ -1,0 +1,5 @@
+pub mod Clauses
+pub mod Lists
+pub mod Watching
+pub mod Propagating
+pub mod Laws

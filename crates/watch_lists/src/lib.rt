@@ -1,0 +1,16 @@
+//! Two watched literals a clause, and the propagation over them.
+//!
+//! Each live clause of two or more literals is in the lists of its first two. Contracts see [`Watches`] as
+//! these lists (`specs/Lists`); `specs/Watching` has the rule that ties arena, watches and trail, and
+//! `specs/Propagating` what a propagation does. Lemmas by which callers keep the rule across their own
+//! steps stand in `proofs/Kept`.
+#![tactic(auto)]
+
+pub mod laws;
+mod step;
+#[cfg(test)]
+mod tests;
+mod watches;
+
+pub use step::Step;
+pub use watches::Watches;
