@@ -1,4 +1,5 @@
 pub mod LiteralSets
+pub mod Tightness
 pub mod Entailment
 pub mod Progressing
 mod GapLemmas

@@ -1,8 +1,7 @@
 -- Membership in sets of literals, and the test for it.
-use Rattle.std.proofs.Common.{◌≡◌, ℕ, Bool, true, false, not, if◌then◌else◌, IsTrue, List, [], ◌∷◌, Contains, map, refl, sym, ap, ◌∙◌, subst}
-use Rattle.std.specs.List.{list_any}
-use Rattle.std.proofs.lemmas.Bool.{and_parts, and_from, eqb-true, eq-eqb, false_from_ne_true, both_ways}
-use Rattle.cnf_core.specs.Literals.{Literal, Literals, negated}
+use Rattle.std.proofs.Common.{◌≡◌, ℕ, Bool, true, false, not, if◌then◌else◌, Contains, refl, sym, ap, ◌∙◌, subst}
+use Rattle.std.proofs.lemmas.Bool.{and_parts, and_from, eqb-true, eq-eqb, false_from_ne_true}
+use Rattle.cnf_core.specs.Literals.{Literal, Literals}
 use Rattle.cnf_core.proofs.Lists.{member_of_list_any, list_any_of_member}
 use Rattle.lrat_lines.specs.Sets.{is_same, has}
 

@@ -1,8 +1,6 @@
 -- A printed line is read as that line.
-use Rattle.std.proofs.Common.{◌≡◌, ℕ, zero, suc, ◌+◌, ◌*◌, ◌-◌, ◌^◌, ◌<◌, ◌≤◌, ◌==◌, Bool, true, false, List, [], ◌∷◌, ◌++◌, length, Option, Some, None, Ok, Result, All, inl, inr, refl, sym, ap, ◌∙◌, append_assoc, arith, rules}
-use Rattle.std.specs.Prelude.{decimal, codes, flat_map, filter, fold, bytes_eq}
-use Rattle.std.specs.List.{list_all}
-use Rattle.std.specs.Char.{is_ascii_digit}
+use Rattle.std.proofs.Common.{◌≡◌, ℕ, zero, suc, ◌^◌, ◌<◌, ◌≤◌, ◌==◌, Bool, true, false, List, [], ◌∷◌, ◌++◌, length, Option, Some, None, Ok, Result, All, inl, inr, refl, sym, ap, ◌∙◌, append_assoc, arith}
+use Rattle.std.specs.Prelude.{decimal, codes, flat_map, filter, bytes_eq}
 use Rattle.std.specs.Int.{IsInRange}
 use Rattle.std.specs.Str.Parse.{AllDigits}
 use Rattle.std.proofs.lemmas.Bool.{ne_eqb, lt-ltb, le-leb, cases_Bool}
@@ -13,12 +11,11 @@ use Rattle.std.proofs.lemmas.Slice.Eq.{bytes_eq-Decides}
 use Rattle.cnf_core.specs.Literals.{Literal, Literals, IsWithin, AreWithin}
 use Rattle.cnf_core.specs.Spelling.{literal_text, number_of_digits}
 use Rattle.cnf_core.proofs.Numerals.{number_of_digits-decimal}
-use Rattle.lrat_lines.specs.declared.line.Line.{Line}
 use Rattle.lrat_lines.specs.declared.line.Line.TheVariants.{Add, Delete}
 use Rattle.lrat_lines.specs.declared.line.LineEnd.{LineEnd}
 use Rattle.lrat_lines.specs.Tokens.{is_gap, before_gap, behind_gaps, is_filled, tokens}
 use Rattle.lrat_lines.specs.Grammar.{◌>>=◌, id_from, id_item, hint_item, literal_from, literal_item, Listed, listed, listed_by, with_element, own_id, ended, addition, deletion, behind_id, line_of_tokens, line_of}
-use Rattle.lrat_lines.specs.Printed.{number_bytes, literal_bytes, numbers_bytes, literals_bytes, line_bytes, IsId, IsPrintable, IsWide, IsInMemory}
+use Rattle.lrat_lines.specs.Printed.{number_bytes, literal_bytes, numbers_bytes, literals_bytes, IsId, IsWide}
 use Rattle.lrat_lines.specs.Laws.{PrintedReadsBack}
 
 -- no byte is a gap

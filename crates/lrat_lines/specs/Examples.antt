@@ -1,6 +1,6 @@
 -- Proofs over a small formula, worked by the definitions: 1 or 2; 1 or -2, over two variables. And lines, read.
 use Rattle.std.specs.Prelude.{◌≡◌, ℕ, true, false, List, [], ◌∷◌, Err, Ok, codes}
-use Rattle.cnf_core.specs.Literals.{Literal, Literals}
+use Rattle.cnf_core.specs.Literals.{Literal}
 use Rattle.cnf_core.specs.Formulas.{Cnf}
 use Rattle.lrat_lines.specs.declared.line.Line.{Line}
 use Rattle.lrat_lines.specs.declared.line.Line.TheVariants.{Add, Delete}

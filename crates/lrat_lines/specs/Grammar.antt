@@ -1,6 +1,6 @@
 -- What the text of a line means: a line of a proof, or why it is none.
-use Rattle.std.specs.Prelude.{ℕ, zero, suc, ◌+◌, ◌-◌, ◌*◌, ◌^◌, ◌==◌, nat_lt, nat_le, Bool, true, false, if◌then◌else◌, List, [], ◌∷◌, Option, Some, None, Result, Ok, Err, bytes_eq, codes}
-use Rattle.cnf_core.specs.Literals.{Literal, Literals}
+use Rattle.std.specs.Prelude.{ℕ, zero, suc, ◌^◌, ◌==◌, nat_lt, nat_le, Bool, true, false, if◌then◌else◌, List, [], ◌∷◌, Option, Some, None, Result, Ok, Err, bytes_eq, codes}
+use Rattle.cnf_core.specs.Literals.{Literal}
 use Rattle.cnf_core.specs.Spelling.{number_of_digits}
 use Rattle.lrat_lines.specs.declared.line.Line.{Line}
 use Rattle.lrat_lines.specs.declared.line.Line.TheVariants.{Add, Delete}

@@ -20,6 +20,10 @@ pub record IsSameSet (c d : Literals) : Type 0 where
   pub forth : (l : Literal) → Contains c l → Contains d l
   pub back : (l : Literal) → Contains d l → Contains c l
 
+-- each member of the first list is one of the second
+abbrev pub IsSubset : Literals → Literals → Type 0
+IsSubset c d = (l : Literal) → Contains c l → Contains d l
+
 -- one of the sets is this one
 pub record HasSet (sets : List Literals) (c : Literals) : Type 0 where
   pub set : Literals

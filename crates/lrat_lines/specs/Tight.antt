@@ -5,6 +5,11 @@ use Rattle.cnf_core.specs.Literals.{Literal, Literals, negated}
 use Rattle.lrat_lines.specs.Sets.{is_same}
 use Rattle.lrat_lines.specs.Propagation.{Known, open_literals}
 
+-- a set is known by the hint
+pub record IsKnown (known : Known) (hint : ℕ) : Type 0 where
+  pub set : Literals
+  pub is_known : known hint ≡ Some set
+
 -- where these literals are true, each literal of the hint's set is false
 pub record ShowsAt (known : Known) (trues : Literals) (hint : ℕ) : Type 0 where
   pub set : Literals

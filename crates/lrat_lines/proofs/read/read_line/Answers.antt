@@ -1,5 +1,5 @@
 -- The line's meaning is that of its tokens.
-use Rattle.std.proofs.Common.{◌≡◌, Result, Err, Ok, ◌∙◌, sym, ap, subst, rules}
+use Rattle.std.proofs.Common.{◌≡◌, Result, Err, ◌∙◌, sym, ap, subst}
 use Rattle.std.proofs.lemmas.Result.{err_from_is_err_and}
 use Rattle.lrat_lines.specs.declared.line.Line.{Line}
 use Rattle.lrat_lines.specs.declared.line.LineEnd.{LineEnd}

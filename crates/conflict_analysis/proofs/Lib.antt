@@ -1,0 +1,10 @@
+pub mod Literals
+pub mod Deriving
+pub mod Counts
+pub mod Growing
+pub mod Sorting
+pub mod Walking
+pub mod Roots
+pub mod Outcomes
+pub mod Traces
+pub mod Examples
