@@ -1,0 +1,4 @@
+pub mod Plain
+pub mod Searching
+pub mod Asserting
+pub mod States
