@@ -1,9 +1,9 @@
 #!/usr/bin/env bash
-# What proved propagation takes on random clauses of three literals, beside a plain C++ loop of the same
-# design (propagation_yardstick.cpp, compiled with -O2), in one run. Both do the same rounds and have to
-# print the same counts.
+# What proved propagation takes on random clauses of three literals, and of two, beside a plain C++ loop of
+# the same design (propagation_yardstick.cpp, compiled with -O2), in one run. Both do the same rounds and have
+# to print the same counts.
 #
-#   bench/propagation.sh [VARIABLES] [CLAUSES] [ROUNDS]
+#   bench/propagation.sh [VARIABLES] [CLAUSES] [ROUNDS] [CLAUSES_OF_TWO]
 #
 # It runs the program of crates/propagation_bench as its last proof built it. The milliseconds are those of
 # the processor, the least of three runs, without what the clauses' making takes.
@@ -13,6 +13,7 @@ cd "$(dirname "$0")/.."
 vars=${1:-250000}
 clauses=${2:-1000000}
 rounds=${3:-40}
+twos=${4:-0}
 program=crates/propagation_bench/out/propagation_bench
 
 if [ ! -x "$program" ]; then
@@ -38,11 +39,11 @@ milliseconds() {
 rounds_of() {
     local all=0 made=0 taken
     for _ in 1 2 3; do
-        taken=$(milliseconds "$1" "$vars" "$clauses" "$rounds")
+        taken=$(milliseconds "$1" "$vars" "$clauses" "$rounds" "$twos")
         if [ "$all" -eq 0 ] || [ "$taken" -lt "$all" ]; then
             all=$taken
         fi
-        taken=$(milliseconds "$1" "$vars" "$clauses" 0)
+        taken=$(milliseconds "$1" "$vars" "$clauses" 0 "$twos")
         if [ "$made" -eq 0 ] || [ "$taken" -lt "$made" ]; then
             made=$taken
         fi
@@ -50,8 +51,8 @@ rounds_of() {
     echo $((all - made))
 }
 
-"$program" "$vars" "$clauses" "$rounds" >"$work/proved"
-"$work/yardstick" "$vars" "$clauses" "$rounds" >"$work/plain"
+"$program" "$vars" "$clauses" "$rounds" "$twos" >"$work/proved"
+"$work/yardstick" "$vars" "$clauses" "$rounds" "$twos" >"$work/plain"
 cat "$work/proved"
 if ! cmp -s "$work/proved" "$work/plain"; then
     echo "the counts differ"

@@ -1,15 +1,16 @@
 // A plain two-watched-literal loop: the yardstick for watch_lists. It makes the same random clauses as
 // crates/propagation_bench, does the same rounds, and prints the same counts.
 //
-//   propagation_yardstick VARIABLES CLAUSES ROUNDS
+//   propagation_yardstick VARIABLES CLAUSES ROUNDS CLAUSES_OF_TWO
 //
 // The design is that of the proved one: literals of all clauses in one array with a start for each clause,
-// a value for each packed literal, lists of watches of 8 bytes with a blocking literal, and a watch that
-// moves is replaced by its list's last one.
+// a value for each packed literal, lists of watches of 8 bytes with a blocking literal and a mark for clauses
+// of two literals, which are not looked at, and a watch that moves is replaced by its list's last one.
 #include <algorithm>
 #include <cstdint>
 #include <cstdio>
 #include <cstdlib>
+#include <initializer_list>
 #include <vector>
 
 using Lit = uint32_t;  // twice the variable, and 1 more where it is negated
@@ -23,7 +24,7 @@ struct Numbers {
 };
 
 struct Watch {
-    uint32_t clause;
+    uint32_t code;  // twice the clause, and 1 more where it has two literals
     Lit blocker;
 };
 
@@ -49,15 +50,16 @@ struct Solver {
     explicit Solver(uint32_t n) : vars(n), lists(2 * n + 2), places(n + 1), truth(2 * n + 2), signs(n) {
         entries.reserve(n);
     }
-    void add(Lit a, Lit b, Lit c) {
-        lits.insert(lits.end(), {a, b, c});
+    void add(std::initializer_list<Lit> clause) {
+        lits.insert(lits.end(), clause);
         starts.push_back(uint32_t(lits.size()));
     }
     void attach() {
         for (uint32_t r = 0; r + 1 < starts.size(); r++) {
             Lit first = lits[starts[r]], second = lits[starts[r] + 1];
-            lists[first].push_back({r, second});
-            lists[second].push_back({r, first});
+            uint32_t code = 2 * r + (starts[r + 1] - starts[r] == 2 ? 1 : 0);
+            lists[first].push_back({code, second});
+            lists[second].push_back({code, first});
         }
     }
     void push(Lit lit, uint64_t reason) {
@@ -97,7 +99,14 @@ struct Solver {
                     at++;
                     continue;
                 }
-                Lit *clause = &lits[starts[watch.clause]];
+                uint32_t r = watch.code / 2;
+                if (watch.code % 2 == 1) {
+                    if (truth[watch.blocker ^ 1]) return r;
+                    push(watch.blocker, r);
+                    at++;
+                    continue;
+                }
+                Lit *clause = &lits[starts[r]];
                 if (clause[0] == fallen) std::swap(clause[0], clause[1]);
                 Lit first = clause[0];
                 if (truth[first]) {
@@ -105,17 +114,17 @@ struct Solver {
                     at++;
                     continue;
                 }
-                uint32_t size = starts[watch.clause + 1] - starts[watch.clause], other = 2;
+                uint32_t size = starts[r + 1] - starts[r], other = 2;
                 while (other < size && truth[clause[other] ^ 1]) other++;
                 if (other < size) {
-                    lists[clause[other]].push_back({watch.clause, first});
+                    lists[clause[other]].push_back({watch.code, first});
                     std::swap(clause[1], clause[other]);
                     list[at] = list.back();
                     list.pop_back();
                     continue;
                 }
-                if (truth[first ^ 1]) return watch.clause;
-                push(first, watch.clause);
+                if (truth[first ^ 1]) return r;
+                push(first, r);
                 at++;
             }
             gone++;
@@ -130,14 +139,19 @@ static Lit literal(uint32_t vars, Numbers &numbers) {
 }
 
 int main(int count, char **words) {
-    if (count < 4) return 1;
+    if (count < 5) return 1;
     uint32_t vars = std::min(std::max(uint32_t(std::strtoul(words[1], nullptr, 10)), 1u), 1048576u);
-    uint32_t draws = std::strtoul(words[2], nullptr, 10), rounds = std::strtoul(words[3], nullptr, 10);
+    uint32_t threes = std::strtoul(words[2], nullptr, 10), rounds = std::strtoul(words[3], nullptr, 10);
+    uint32_t twos = std::strtoul(words[4], nullptr, 10);
     Numbers numbers;
     Solver solver(vars);
-    for (uint32_t i = 0; i < draws; i++) {
+    for (uint32_t i = 0; i < threes; i++) {
         Lit a = literal(vars, numbers), b = literal(vars, numbers), c = literal(vars, numbers);
-        if (a / 2 != b / 2 && a / 2 != c / 2 && b / 2 != c / 2) solver.add(a, b, c);
+        if (a / 2 != b / 2 && a / 2 != c / 2 && b / 2 != c / 2) solver.add({a, b, c});
+    }
+    for (uint32_t i = 0; i < twos; i++) {
+        Lit a = literal(vars, numbers), b = literal(vars, numbers);
+        if (a / 2 != b / 2) solver.add({a, b});
     }
     solver.attach();
     uint64_t decisions = 0, assigned = 0, conflicts = 0;

@@ -16,34 +16,35 @@ pub fn literal(vars: u32, numbers: &mut Numbers) -> Lit
     Lit::new(var, numbers.next() % 2 == 0)
 }
 
-/// Random clauses of three literals. Of so many draws, those with a variable twice are left out.
+/// Random clauses: of so many draws each, those of three literals and then those of two. Draws with a
+/// variable twice are left out.
 pub fn random_clauses(
     alloc: Global,
     vars: u32,
-    draws: u32,
+    threes: u32,
+    twos: u32,
     numbers: &mut Numbers,
 ) -> Result<Arena, NoMemory>
     requires { (0 < vars) × (vars ≤ 2 ^ 20) }
     ensures { IfOk result (λ a. AreClean vars a) }
 {
     let mut arena = Arena::new(alloc);
-    for id in 0..draws {
+    for _draw in 0..threes {
         let first = literal(vars, numbers);
         let second = literal(vars, numbers);
         let third = literal(vars, numbers);
-        add_three(&mut arena, first, second, third, id)?;
+        add_three(&mut arena, first, second, third)?;
+    }
+    for _draw in 0..twos {
+        let first = literal(vars, numbers);
+        let second = literal(vars, numbers);
+        add_two(&mut arena, first, second)?;
     }
     Ok(arena)
 }
 
 /// Adds a clause of three literals, unless a variable stands in it twice.
-fn add_three(
-    arena: &mut Arena,
-    first: Lit,
-    second: Lit,
-    third: Lit,
-    id: u32,
-) -> Result<(), NoMemory>
+fn add_three(arena: &mut Arena, first: Lit, second: Lit, third: Lit) -> Result<(), NoMemory>
     ensures { OnOk result ((n : ℕ) → AreClean n arena.old → IsWithin n first → IsWithin n second → IsWithin n third
         → AreClean n arena.new) }
 {
@@ -51,7 +52,21 @@ fn add_three(
         return Ok(());
     }
     let lits = [first, second, third];
-    arena.add(&lits, u64::from(id), false)?;
+    let id = u64::from(arena.len());
+    arena.add(&lits, id, false)?;
+    Ok(())
+}
+
+/// Adds a clause of two literals, unless they have the same variable.
+fn add_two(arena: &mut Arena, first: Lit, second: Lit) -> Result<(), NoMemory>
+    ensures { OnOk result ((n : ℕ) → AreClean n arena.old → IsWithin n first → IsWithin n second → AreClean n arena.new) }
+{
+    if first.var() == second.var() {
+        return Ok(());
+    }
+    let lits = [first, second];
+    let id = u64::from(arena.len());
+    arena.add(&lits, id, false)?;
     Ok(())
 }
 

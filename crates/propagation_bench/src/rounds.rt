@@ -21,11 +21,17 @@ pub struct Counts {
     pub conflicts: u64,
 }
 
-/// Makes the clauses and does so many rounds.
-pub fn run(alloc: Global, vars: u32, draws: u32, rounds: u32) -> Result<Counts, NoMemory> {
+/// Makes clauses of so many draws, of three literals and of two, and does so many rounds.
+pub fn run(
+    alloc: Global,
+    vars: u32,
+    threes: u32,
+    twos: u32,
+    rounds: u32,
+) -> Result<Counts, NoMemory> {
     let vars = vars.clamp(1, MAX_VARS);
     let mut numbers = Numbers::new();
-    let mut arena = random_clauses(alloc, vars, draws, &mut numbers)?;
+    let mut arena = random_clauses(alloc, vars, threes, twos, &mut numbers)?;
     let mut watches = Watches::new(alloc, vars)?;
     watches.rebuild(&arena)?;
     let mut trail = Trail::new(alloc, vars)?;

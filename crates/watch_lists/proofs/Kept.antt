@@ -2,6 +2,7 @@
 --
 -- attached_empty                         after `Watches::new`, over an arena without clauses to watch
 -- clean_none, clean_added, clean_removed, clean_compacted     what `rebuild` asks of the clauses
+-- ready_new                              after `Arena::new`, `Watches::new` and `Trail::new`
 -- ready_empty, ready_attached            after `rebuild`, over a new trail or at the root
 -- ready_decided, ready_pushed            after `Trail::decide` on a quiet trail, after `Trail::push`
 -- ready_backtracked, quiet_backtracked   after `Trail::backtrack`
@@ -22,7 +23,7 @@ use Rattle.trail_core.specs.declared.entry.Reason.{Reason}
 use Rattle.trail_core.specs.declared.entry.Reason.TheVariants.{Decision}
 use Rattle.trail_core.specs.Trails.{no_entry, assigned_at, IsTrail, TrailState, empty_trail, with_entry, with_root, IsBacktracked}
 use Rattle.watch_lists.specs.Clauses.{IsLong, IsClean, AreClean, HasLiteralBy, HasLiteralBelow, HasTrueBy, IsSettledBelow}
-use Rattle.watch_lists.specs.Lists.{WatchLists, empty_lists, with_clause, IsSound, HasWatchFrom, list_of, IsAttached}
+use Rattle.watch_lists.specs.Lists.{WatchLists, empty_lists, with_clause, HasWatchFrom, list_of, watch_at, IsAttached}
 use Rattle.watch_lists.specs.Watching.{IsWatched, IsReady}
 use Rattle.watch_lists.proofs.Orders.{literal_member}
 use Rattle.watch_lists.proofs.Fronts.{front_push, at_front, true_by_kept}
@@ -56,6 +57,15 @@ ready_empty a w h = record {
   gone = omega arith;
   present = λ k past within. absurd (omega (arith, within));
 }
+
+-- without clauses
+pub ready_new : (a : Entries) (w : WatchLists) (t : TrailState) (vars : ℕ) → a ≡ [] → w ≡ empty_lists vars → t ≡ empty_trail vars
+    → IsReady a w t
+ready_new a w t vars none no_watches no_entries =
+    let attached = attached_empty a vars
+    (λ r long. omega (arith, ap (λ (b : Entries). length b) none, long.live.present)) in
+    subst (λ (v : WatchLists). IsReady a v t) (sym no_watches)
+    (subst (IsReady a (empty_lists vars)) (sym no_entries) (ready_empty a (empty_lists vars) attached))
 
 -- ---- an entry more
 
@@ -301,11 +311,13 @@ clean_compacted n a old r long =
 filled_old : (a : Entries) (w : WatchLists) (e : Entry) → IsAttached a w → IsFilled (λ r. r < length a) (with_new a e) w
 filled_old a w e h = record {
   size = h.size;
-  sound = λ code k lt.
-      let s = h.sound code k lt in
-      let x = get_or (get_or w.lists code []) k Rattle.watch_lists.specs.Lists.no_watch in record {
+  sound = λ l k lt.
+      let s = h.sound l k lt in
+      let x = watch_at w l k in
+      let is = entry_old a e x.clause s.long.live.present in record {
         long = long_new a e x.clause s.long.live.present s.long;
-        blocker = subst (λ (y : Entry). Contains y.lits x.blocker) (sym (entry_old a e x.clause s.long.live.present)) s.blocker;
+        blocker = subst (λ (y : Entry). Contains y.lits x.blocker) (sym is) s.blocker;
+        pair = λ two m member. s.pair two m (subst (λ (y : Entry). Contains y.lits m) is member);
       };
   complete = λ r i lt long two.
       subst (λ (y : Entry). HasWatchFrom (list_of w (get_or y.lits i no_literal)) r 0) (sym (entry_old a e r lt))

@@ -7,26 +7,26 @@ use Rattle.std.proofs.Math.Seq.{take-append_seam}
 use Rattle.std.specs.Vec.{with_items}
 use Rattle.cnf_core.specs.Literals.{Literal, code_of, IsWithin}
 use Rattle.trail_core.proofs.Lookups.{code_within}
-use Rattle.watch_lists.specs.declared.watches.Watch.{Watch}
+use Rattle.watch_lists.specs.Watchers.{Watcher}
 use Rattle.watch_lists.specs.Lists.{WatchLists, no_watch, list_of, with_list}
 
-abbrev pub lists_in : {Z : Type 0} → List (Vec Watch Z) → List (List Watch)
+abbrev pub lists_in : {Z : Type 0} → List (Vec Watcher Z) → List (List Watcher)
 lists_in vs = map (λ v. v.items) vs
 
-abbrev pub held : {Z : Type 0} → List (Vec Watch Z) → ℕ → WatchLists
+abbrev pub held : {Z : Type 0} → List (Vec Watcher Z) → ℕ → WatchLists
 held vs n = record { lists = lists_in vs; vars = n }
 
-pub list_here : {Z : Type 0} (vs : List (Vec Watch Z)) (n i : ℕ) (l : Literal) (v : Vec Watch Z) → length vs ≡ 2 * n + 2
+pub list_here : {Z : Type 0} (vs : List (Vec Watcher Z)) (n i : ℕ) (l : Literal) (v : Vec Watcher Z) → length vs ≡ 2 * n + 2
     → IsWithin n l → i ≡ code_of l → v ≡ get_or vs i v → v.items ≡ list_of (held vs n) l
 list_here vs n i l v size within is read =
     let lt : i < length vs = omega (arith, code_within n l within) in
     ap (λ u. u.items) read ∙ sym (get_or-map (λ u. u.items) vs i v [] lt)
     ∙ ap (λ c. get_or (lists_in vs) c []) is
 
-pub list_changed : {Z : Type 0} (vs : List (Vec Watch Z)) (n i : ℕ) (l : Literal) (v : Vec Watch Z) (xs : List Watch)
+pub list_changed : {Z : Type 0} (vs : List (Vec Watcher Z)) (n i : ℕ) (l : Literal) (v : Vec Watcher Z) (xs : List Watcher)
     → i ≡ code_of l → v.items ≡ xs → held (set vs i v) n ≡ with_list (held vs n) l xs
 list_changed vs n i l v xs is items =
-    ap (λ (ls : List (List Watch)). record { lists = ls; vars = n })
+    ap (λ (ls : List (List Watcher)). record { lists = ls; vars = n })
     (map-set (λ u. u.items) vs i v ∙ ap (λ c. set (lists_in vs) c v.items) is ∙ ap (λ ys. set (lists_in vs) (code_of l) ys) items)
 
 -- a list that stays
@@ -34,10 +34,10 @@ pub list_same : (w : WatchLists) (l : Literal) → with_list w l (list_of w l) �
 list_same w l = ap (λ ls. record w { lists = ls }) (set-get_or w.lists (code_of l) [])
 
 -- the lists before a place are empty
-abbrev pub AreClear : List (List Watch) → ℕ → Type 0
+abbrev pub AreClear : List (List Watcher) → ℕ → Type 0
 AreClear ls n = (k : ℕ) → k < n → get_or ls k [] ≡ []
 
-pub clear_more : {Z : Type 0} (vs : List (Vec Watch Z)) (i : ℕ) (v : Vec Watch Z) → i < length vs → v.items ≡ []
+pub clear_more : {Z : Type 0} (vs : List (Vec Watcher Z)) (i : ℕ) (v : Vec Watcher Z) → i < length vs → v.items ≡ []
     → AreClear (lists_in vs) i → AreClear (lists_in (set vs i v)) (i + 1)
 clear_more vs i v lt none before k within =
     let e : lists_in (set vs i v) ≡ set (lists_in vs) i v.items = map-set (λ u. u.items) vs i v in
@@ -48,22 +48,22 @@ clear_more vs i v lt none before k within =
     (λ (other : k ≢ i). get_or-set_other (lists_in vs) i k v.items [] other ∙ before k (omega arith))
     (cases_eq k i)
 
-pub all_clear : {Z : Type 0} (vs : List (Vec Watch Z)) (n m : ℕ) → length vs ≡ m → m ≤ n → AreClear (lists_in vs) n
+pub all_clear : {Z : Type 0} (vs : List (Vec Watcher Z)) (n m : ℕ) → length vs ≡ m → m ≤ n → AreClear (lists_in vs) n
     → lists_in vs ≡ replicate m []
 all_clear vs n m count past clear =
     let size : length (lists_in vs) ≡ m = length-map vs (λ u. u.items) ∙ count in
-    let wanted : length (replicate m (let none : List Watch = [] in none)) ≡ m = length-replicate m [] in
+    let wanted : length (replicate m (let none : List Watcher = [] in none)) ≡ m = length-replicate m [] in
     ext_get_or [] (lists_in vs) (replicate m []) (omega arith)
     (λ k within. clear k (omega arith) ∙ sym (get_or-replicate m k [] [] (omega arith)))
 
-pub one_more_list : {Z : Type 0} (vs ws : List (Vec Watch Z)) (v : Vec Watch Z) (n : ℕ) → lists_in vs ≡ replicate n []
+pub one_more_list : {Z : Type 0} (vs ws : List (Vec Watcher Z)) (v : Vec Watcher Z) (n : ℕ) → lists_in vs ≡ replicate n []
     → ws ≡ vs ++ v ∷ [] → v.items ≡ [] → lists_in ws ≡ replicate (n + 1) []
 one_more_list vs ws v n before is none =
     ap lists_in is ∙ map-append (λ u. u.items) vs (v ∷ []) ∙ ap (λ ls. ls ++ v.items ∷ []) before
     ∙ ap (λ xs. replicate n [] ++ xs ∷ []) none ∙ sym (replicate_next n [])
 
 -- the default that fills an empty list is never used
-pub taken_out : (xs : List Watch) (i : ℕ) (x : Watch) → i < length xs → swap_remove xs i x ≡ swap_remove xs i no_watch
+pub taken_out : (xs : List Watcher) (i : ℕ) (x : Watcher) → i < length xs → swap_remove xs i x ≡ swap_remove xs i no_watch
 taken_out xs i x lt =
     ap (λ y. take (length xs - 1) (set xs i y)) (get_or_default xs (length xs - 1) x no_watch (omega arith))
 

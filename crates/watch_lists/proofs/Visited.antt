@@ -8,14 +8,16 @@ use Rattle.clause_arena.specs.Entries.{Entry, Entries, no_literal, entry_at, len
 use Rattle.trail_core.specs.declared.entry.Assigned.{Assigned}
 use Rattle.trail_core.specs.declared.entry.Reason.TheVariants.{Clause}
 use Rattle.trail_core.specs.Trails.{no_entry, assigned_at, HasLiteral, IsFree, IsLeveled, IsTrail, TrailState, with_entry}
-use Rattle.watch_lists.specs.declared.watches.Watch.{Watch}
+use Rattle.watch_lists.specs.Watchers.{Watcher}
 use Rattle.watch_lists.specs.Clauses.{IsLong, IsClean, IsReordered, HasLiteralBefore, HasTrueBy, IsFalsified}
 use Rattle.watch_lists.specs.Lists.{WatchLists, no_watch, list_of, watch_at, with_watch, with_watch_at, without_watch, IsSound, HasWatchFrom, IsAttached}
 use Rattle.watch_lists.specs.Watching.{IsWatched, IsReady}
-use Rattle.watch_lists.specs.Propagating.{HasTrue, IsOther, AreFalseBelow, IsPending, IsVisiting, IsPropagated, IsAdvanced}
+use Rattle.watch_lists.specs.Propagating.{HasTrue, IsOther, AreFalseBelow, IsPending, IsVisiting, IsPropagated, IsAdvanced, FateSays, ForceSays}
+use Rattle.watch_lists.specs.declared.step.Fate.{Fate}
+use Rattle.watch_lists.specs.declared.step.Fate.TheVariants.{Keep, Move, Falsified, NoRoom}
 use Rattle.watch_lists.proofs.Orders.{place_of, reordered_refl, reordered_trans, reordered_sym, reordered_swap, long_after, member_after, literal_member, literal_first, literal_second, literal_other, at_unswapped}
 use Rattle.watch_lists.proofs.Fronts.{IsFront, front_refl, front_push, front_trans, at_front, literal_kept, literal_pushed, true_kept, true_by_kept, forced_kept, free_of_open, negated_twice}
-use Rattle.watch_lists.proofs.Attached.{two_cases, has_set, has_removed, has_push, has_pushed, length-removed, list_set, list_unset, attached_set, attached_add, attached_remove, attached_swap}
+use Rattle.watch_lists.proofs.Attached.{two_cases, literal_eq, has_set, has_removed, has_pushed, length-removed, list_set, list_unset, attached_set, attached_add, attached_remove, attached_swap}
 
 -- ---- what was pushed
 
@@ -183,7 +185,7 @@ pub visiting_blocked : (a : Entries) (w : WatchLists) (t : TrailState) (f : Lite
     → start < length (list_of w f) → HasLiteral t.entries (watch_at w f start).blocker → IsVisiting a w t f (start + 1)
 visiting_blocked a w t f start v lt made =
     let x = watch_at w f start in
-    let s : IsSound a x = v.ready.attached.sound (Rattle.cnf_core.specs.Literals.code_of f) start lt in record {
+    let s : IsSound a f x = v.ready.attached.sound f start lt in record {
       ready = v.ready;
       made_false = v.made_false;
       pending = pending_next a t.entries w w f start x.clause v.pending refl
@@ -194,14 +196,15 @@ visiting_blocked a w t f start v lt made =
 pub visiting_set : (a : Entries) (w : WatchLists) (t : TrailState) (f : Literal) (start r : ℕ) (l : Literal) → IsVisiting a w t f start
     → IsWithin w.vars f → start < length (list_of w f) → (watch_at w f start).clause ≡ r → IsLong a r
     → Contains (entry_at a r).lits l → HasLiteral t.entries l
-    → IsVisiting a (with_watch_at w f start (record { clause = r; blocker = l })) t f (start + 1)
+    → IsVisiting a (with_watch_at w f start (record { clause = r; blocker = l; binary = false })) t f (start + 1)
 visiting_set a w t f start r l v within lt is long member made =
-    let x : Watch = record { clause = r; blocker = l } in
+    let x : Watcher = record { clause = r; blocker = l; binary = false } in
     let g = v.ready in
     let now = list_set w f (Rattle.std.proofs.Common.set (list_of w f) start x) g.attached.size within in record {
       ready = record {
         vars = g.vars;
-        attached = attached_set a w f start x g.attached within lt (sym is) (record { long = long; blocker = member });
+        attached = attached_set a w f start x g.attached within lt (sym is)
+            (record { long = long; blocker = member; pair = λ two. absurd (false≢true two) });
         watched = g.watched;
         gone = g.gone;
         present = g.present;
@@ -209,7 +212,7 @@ visiting_set a w t f start r l v within lt is long member made =
       made_false = v.made_false;
       pending = pending_next a t.entries w (with_watch_at w f start x) f start r v.pending is
           (record { lit = l; member = member; made = made })
-          (λ s later. subst (λ (xs : List Watch). HasWatchFrom xs s (start + 1)) (sym now)
+          (λ s later. subst (λ (xs : List Watcher). HasWatchFrom xs s (start + 1)) (sym now)
           (has_set (list_of w f) start s (start + 1) x lt (sym is) later));
     }
 
@@ -224,7 +227,7 @@ removed_pending a es w f start h g within lt apart =
       rest = λ s m long two is. ⊎_elim
           (λ (yes : HasTrue a es s). inl yes)
           (λ (later : HasWatchFrom (list_of w f) s start).
-          inr (subst (λ (xs : List Watch). HasWatchFrom xs s start) (sym now)
+          inr (subst (λ (xs : List Watcher). HasWatchFrom xs s start) (sym now)
           (has_removed (list_of w f) start s start lt
           (λ same. apart m two (ap (λ (z : ℕ). literal_of a z m) same ∙ is)) (omega arith) later)))
           (h.rest s m long two is);
@@ -251,7 +254,7 @@ visiting_removed a w t f start v within lt apart =
 pub length-without : (w : WatchLists) (f : Literal) (start : ℕ) → Rattle.watch_lists.specs.Lists.IsSized w → IsWithin w.vars f
     → start < length (list_of w f) → length (list_of (without_watch w f start) f) + 1 ≡ length (list_of w f)
 length-without w f start size within lt =
-    ap (λ (xs : List Watch). length xs + 1) (list_set w f (swap_remove (list_of w f) start no_watch) size within)
+    ap (λ (xs : List Watcher). length xs + 1) (list_set w f (swap_remove (list_of w f) start no_watch) size within)
     ∙ length-removed (list_of w f) start lt
 
 -- ---- a watch moves to a literal that isn't false
@@ -261,9 +264,9 @@ distinct_literals : (n : ℕ) (a : Entries) (r i j : ℕ) → IsClean n (entry_a
 distinct_literals n a r i j c first second apart same = apart (c.distinct i j first second (ap (λ (l : Literal). l.var) same))
 
 -- with the watch in the new list, and the literals exchanged
-visiting_exchanged : (a : Entries) (w : WatchLists) (t : TrailState) (f : Literal) (start r k : ℕ) (x : Watch)
+visiting_exchanged : (a : Entries) (w : WatchLists) (t : TrailState) (f : Literal) (start r k : ℕ) (x : Watcher)
     → IsVisiting a w t f start → IsWithin w.vars f → IsLong a r → literal_of a r 1 ≡ f → IsOther a t.entries r k
-    → x.clause ≡ r → IsSound a x
+    → x.clause ≡ r → IsSound a (literal_of a r k) x
     → IsVisiting (with_swap a r 1 k) (with_watch w (literal_of a r k) x) t f start
 visiting_exchanged a w t f start r k x v within long second o clause sound =
     let g = v.ready in
@@ -281,14 +284,14 @@ visiting_exchanged a w t f start r k x v within long second o clause sound =
     (λ e. omega (arith, e)) in
     let right : literal_of b r 1 ≡ l = literal_first a r 1 k here one o.within in
     let listed : HasWatchFrom (list_of u l) r 0 =
-    subst (λ (xs : List Watch). HasWatchFrom xs r 0) (sym (list_set w l (list_of w l ++ x ∷ []) g.attached.size (clean.within k o.within)))
+    subst (λ (xs : List Watcher). HasWatchFrom xs r 0) (sym (list_set w l (list_of w l ++ x ∷ []) g.attached.size (clean.within k o.within)))
     (subst (λ (z : ℕ). HasWatchFrom (list_of w l ++ x ∷ []) z 0) clause (has_pushed (list_of w l) x)) in
     let away : (m : ℕ) → m < 2 → literal_of b r m ≢ f = λ m two is. two_cases m ⊥ two
     (λ at. distinct_literals w.vars a r 0 1 clean (omega arith) one (λ s. omega (arith, s))
     (sym left ∙ ap (λ (n : ℕ). literal_of b r n) (sym at) ∙ is ∙ sym second))
     (λ at. is_other (sym right ∙ ap (λ (n : ℕ). literal_of b r n) (sym at) ∙ is)) in
     let was : IsPending a t.entries u f start = record {
-      rest = λ s m lng two is. subst (λ (xs : List Watch). HasTrue a t.entries s ⊎ HasWatchFrom xs s start) (sym same)
+      rest = λ s m lng two is. subst (λ (xs : List Watcher). HasTrue a t.entries s ⊎ HasWatchFrom xs s start) (sym same)
           (v.pending.rest s m lng two is);
     } in record {
       ready = record {
@@ -316,9 +319,9 @@ visiting_exchanged a w t f start r k x v within long second o clause sound =
       pending = pending_swap a t.entries u f start r 1 k was here one o.within (λ m two is. absurd (away m two is));
     }
 
-pub visiting_moved : (a : Entries) (w : WatchLists) (t : TrailState) (f : Literal) (start r k : ℕ) (x : Watch)
+pub visiting_moved : (a : Entries) (w : WatchLists) (t : TrailState) (f : Literal) (start r k : ℕ) (x : Watcher)
     → IsVisiting a w t f start → IsWithin w.vars f → start < length (list_of w f) → (watch_at w f start).clause ≡ r
-    → IsLong a r → literal_of a r 1 ≡ f → IsOther a t.entries r k → x.clause ≡ r → IsSound a x
+    → IsLong a r → literal_of a r 1 ≡ f → IsOther a t.entries r k → x.clause ≡ r → IsSound a (literal_of a r k) x
     → (length (list_of (without_watch (with_watch w (literal_of a r k) x) f start) f) + 1 ≡ length (list_of w f))
     × IsVisiting (with_swap a r 1 k) (without_watch (with_watch w (literal_of a r k) x) f start) t f start
 visiting_moved a w t f start r k x v within lt is long second o clause sound =
@@ -332,8 +335,8 @@ visiting_moved a w t f start r k x v within lt is long second o clause sound =
     let is_other : l ≢ f = λ e. distinct_literals w.vars a r k 1 clean o.within one (λ s. omega (arith, s)) (e ∙ sym second) in
     let same : list_of u f ≡ list_of w f = list_unset w l f (list_of w l ++ x ∷ []) (λ e. is_other (sym e)) in
     let mid = visiting_exchanged a w t f start r k x v within long second o clause sound in
-    let fits : start < length (list_of u f) = omega (arith, ap (λ (xs : List Watch). length xs) same) in
-    let at_clause : (watch_at u f start).clause ≡ r = ap (λ (xs : List Watch). (get_or xs start no_watch).clause) same ∙ is in
+    let fits : start < length (list_of u f) = omega (arith, ap (λ (xs : List Watcher). length xs) same) in
+    let at_clause : (watch_at u f start).clause ≡ r = ap (λ (xs : List Watcher). (get_or xs start no_watch).clause) same ∙ is in
     let left : literal_of b r 0 ≡ literal_of a r 0 = literal_other a r 1 k 0 here one o.within (λ e. omega (arith, e))
     (λ e. omega (arith, e)) in
     let right : literal_of b r 1 ≡ l = literal_first a r 1 k here one o.within in
@@ -343,7 +346,7 @@ visiting_moved a w t f start r k x v within lt is long second o clause sound =
     (λ at. is_other (sym right ∙ ap (λ (n : ℕ). literal_of b r n) (sym at) ∙ e)) in
     let done = visiting_removed b u t f start mid within fits
     (λ m two e. away m two (ap (λ (z : ℕ). literal_of b z m) (sym at_clause) ∙ e)) in
-    (length-without u f start mid.ready.attached.size within fits ∙ ap (λ (xs : List Watch). length xs) same, done)
+    (length-without u f start mid.ready.attached.size within fits ∙ ap (λ (xs : List Watcher). length xs) same, done)
 
 -- ---- all literals but the first are false
 
@@ -362,23 +365,29 @@ rest_false a es r f second made h l member other =
     (cases_eq p.place 1))
     (cases_eq p.place 0)
 
-pub falsified : (a : Entries) (es : List Assigned) (r : ℕ) (f : Literal) → IsLong a r → literal_of a r 1 ≡ f → HasLiteral es (negated f)
-    → AreFalseBelow a es r (len_of a r) → HasLiteral es (negated (literal_of a r 0)) → IsFalsified a es r
-falsified a es r f long second made h first = record {
-  live = long.live;
-  all_false = λ l member. Rattle.watch_lists.proofs.Attached.literal_eq l (literal_of a r 0) (HasLiteral es (negated l))
-      (λ same. subst (λ (k : Literal). HasLiteral es (negated k)) (sym same) first)
-      (λ other. rest_false a es r f second made h l member other);
+-- all literals of a live clause but one are false, and that one isn't true
+pub record IsLast (a : Entries) (t : TrailState) (r : ℕ) (l : Literal) : Type 0 where
+  pub long : IsLong a r
+  pub member : Contains (entry_at a r).lits l
+  pub others : (k : Literal) → Contains (entry_at a r).lits k → k ≢ l → HasLiteral t.entries (negated k)
+  pub not_true : HasLiteral t.entries l → ⊥
+
+falsified : (a : Entries) (t : TrailState) (r : ℕ) (l : Literal) → IsLast a t r l → HasLiteral t.entries (negated l)
+    → IsFalsified a t.entries r
+falsified a t r l h made = record {
+  live = h.long.live;
+  all_false = λ k member. literal_eq k l (HasLiteral t.entries (negated k))
+      (λ same. subst (λ (n : Literal). HasLiteral t.entries (negated n)) (sym same) made)
+      (λ other. h.others k member other);
 }
 
--- the first one is pushed
-pub visiting_pushed : (a : Entries) (w : WatchLists) (t : TrailState) (f : Literal) (start r : ℕ) → IsVisiting a w t f start
-    → start < length (list_of w f) → (watch_at w f start).clause ≡ r → IsLong a r
-    → IsVisiting a w (with_entry t (literal_of a r 0) t.level (Clause r)) f (start + 1)
-visiting_pushed a w t f start r v lt is long =
+-- it is pushed
+visiting_pushed : (a : Entries) (w : WatchLists) (t : TrailState) (f : Literal) (start r : ℕ) (l : Literal) → IsVisiting a w t f start
+    → (watch_at w f start).clause ≡ r → IsLast a t r l → IsVisiting a w (with_entry t l t.level (Clause r)) f (start + 1)
+visiting_pushed a w t f start r l v is last =
     let g = v.ready in
-    let x : Assigned = record { lit = literal_of a r 0; level = t.level; reason = Clause r } in
-    let u = with_entry t (literal_of a r 0) t.level (Clause r) in
+    let x : Assigned = record { lit = l; level = t.level; reason = Clause r } in
+    let u = with_entry t l t.level (Clause r) in
     let front = front_push t.entries x in
     let size : length u.entries ≡ length t.entries + 1 = length_push t.entries x in
     let still : IsPending a u.entries w f start = record {
@@ -408,11 +417,7 @@ visiting_pushed a w t f start r v lt is long =
       };
       made_false = literal_kept t.entries u.entries (negated f) front v.made_false;
       pending = pending_next a u.entries w w f start r still is
-          (record {
-            lit = literal_of a r 0;
-            member = literal_member a r 0 (omega (arith, long.long));
-            made = literal_pushed t.entries x;
-          })
+          (record { lit = l; member = last.member; made = literal_pushed t.entries x })
           (λ s later. later);
     }
 
@@ -423,12 +428,11 @@ before_end es fs l k front end h = record {
   lit = ap (λ (x : Assigned). x.lit) (at_front es fs h.place front h.within) ∙ h.lit;
 }
 
-pub advanced_pushed : (a : Entries) (t : TrailState) (r : ℕ) (f : Literal) → IsLong a r → literal_of a r 1 ≡ f
-    → HasLiteral t.entries (negated f) → AreFalseBelow a t.entries r (len_of a r) → IsFree t.entries (literal_of a r 0).var
-    → IsAdvanced a t a (with_entry t (literal_of a r 0) t.level (Clause r))
-advanced_pushed a t r f long second made h free =
-    let x : Assigned = record { lit = literal_of a r 0; level = t.level; reason = Clause r } in
-    let u = with_entry t (literal_of a r 0) t.level (Clause r) in
+advanced_pushed : (a : Entries) (t : TrailState) (r : ℕ) (l : Literal) → IsLast a t r l → IsFree t.entries l.var
+    → IsAdvanced a t a (with_entry t l t.level (Clause r))
+advanced_pushed a t r l last free =
+    let x : Assigned = record { lit = l; level = t.level; reason = Clause r } in
+    let u = with_entry t l t.level (Clause r) in
     let front = front_push t.entries x in
     let size : length u.entries ≡ length t.entries + 1 = length_push t.entries x in
     let new : (k : ℕ) → length t.entries ≤ k → k < length u.entries → assigned_at u.entries k ≡ x =
@@ -440,16 +444,16 @@ advanced_pushed a t r f long second made h free =
         forced = λ k past lt.
             let is = new k past lt in
             let end : k ≡ length t.entries = omega arith in
-            let lit : (assigned_at u.entries k).lit ≡ literal_of a r 0 = ap (λ (e : Assigned). e.lit) is in record {
+            let lit : (assigned_at u.entries k).lit ≡ l = ap (λ (e : Assigned). e.lit) is in record {
               clause = r;
               reason = ap (λ (e : Assigned). e.reason) is;
-              live = long.live;
-              member = subst (λ (l : Literal). Contains (entry_at a r).lits l) (sym lit) (literal_member a r 0 (omega (arith, long.long)));
+              live = last.long.live;
+              member = subst (λ (n : Literal). Contains (entry_at a r).lits n) (sym lit) last.member;
               free = λ j before same. free j (omega arith)
                   (ap (λ (e : Assigned). e.lit.var) (sym (at_front t.entries u.entries j front (omega arith))) ∙ same
-                  ∙ ap (λ (l : Literal). l.var) lit);
-              others = λ l member other. before_end t.entries u.entries (negated l) k front end
-                  (rest_false a t.entries r f second made h l member (λ e. other (e ∙ sym lit)));
+                  ∙ ap (λ (n : Literal). n.var) lit);
+              others = λ n member other. before_end t.entries u.entries (negated n) k front end
+                  (last.others n member (λ e. other (e ∙ sym lit)));
             };
         levels = λ k past lt. ap (λ (e : Assigned). e.level) (new k past lt);
         gone = omega arith;
@@ -459,37 +463,75 @@ advanced_pushed a t r f long second made h free =
       gone = refl;
     }
 
+-- it is pushed, or it is false too
+pub forced : (fate : Fate) (a : Entries) (w : WatchLists) (t u : TrailState) (f : Literal) (start r : ℕ) (l : Literal)
+    → IsVisiting a w t f start → (watch_at w f start).clause ≡ r → IsLast a t r l → ForceSays fate t u l r
+    → IsAdvanced a t a u × FateSays fate a w w u f start
+forced Keep a w t u f start r l v is last says =
+    let free = free_of_open t.entries l last.not_true says.0 in
+    subst (λ (z : TrailState). IsAdvanced a t a z × FateSays Keep a w w z f start) (sym says.1)
+    (advanced_pushed a t r l last free, (refl, visiting_pushed a w t f start r l v is last))
+forced Move a w t u f start r l v is last says = absurd says
+forced (Falsified s) a w t u f start r l v is last says =
+    subst (λ (z : TrailState). IsAdvanced a t a z × (IsReady a w z × IsFalsified a z.entries s)) (sym says.2)
+    (advanced_refl a t, (v.ready, subst (IsFalsified a t.entries) (sym says.1) (falsified a t r l last says.0)))
+forced NoRoom a w t u f start r l v is last says = absurd says
+
+-- the blocker's variable is one of the trail's
+pub blocker_within : (a : Entries) (w : WatchLists) (t : TrailState) (f : Literal) (start : ℕ) (x : Watcher) → IsVisiting a w t f start
+    → start < length (list_of w f) → x ≡ watch_at w f start → IsWithin t.vars x.blocker
+blocker_within a w t f start x v lt is =
+    let g = v.ready in
+    let s : IsSound a f x = subst (IsSound a f) (sym is) (g.attached.sound f start lt) in
+    let p = place_of a x.clause x.blocker s.blocker in
+    subst (IsWithin t.vars) p.lit (subst (λ (n : ℕ). IsWithin n (literal_of a x.clause p.place)) g.vars
+    ((g.attached.clean x.clause s.long).within p.place p.within))
+
+-- the clause of a watch that says all of it
+pub last_paired : (a : Entries) (w : WatchLists) (t : TrailState) (f : Literal) (start : ℕ) (x : Watcher) → IsVisiting a w t f start
+    → start < length (list_of w f) → x ≡ watch_at w f start → x.binary ≡ true → (HasLiteral t.entries x.blocker → ⊥)
+    → IsLast a t x.clause x.blocker
+last_paired a w t f start x v lt is two not_true =
+    let s : IsSound a f x = subst (IsSound a f) (sym is) (v.ready.attached.sound f start lt) in record {
+      long = s.long;
+      member = s.blocker;
+      others = λ k member other. subst (λ (n : Literal). HasLiteral t.entries (negated n)) (sym (s.pair two k member other)) v.made_false;
+      not_true = not_true;
+    }
+
 -- ---- the clause of a watch is settled
 
 pub long_of : (a : Entries) (w : WatchLists) (t : TrailState) (f : Literal) (start r : ℕ) → IsVisiting a w t f start
     → start < length (list_of w f) → (watch_at w f start).clause ≡ r → IsLong a r
 long_of a w t f start r v lt is =
-    subst (IsLong a) is (v.ready.attached.sound (Rattle.cnf_core.specs.Literals.code_of f) start lt).long
+    subst (IsLong a) is (v.ready.attached.sound f start lt).long
+
+-- the first literal, where all others are false
+pub last_first : (a : Entries) (w : WatchLists) (t : TrailState) (f : Literal) (start r : ℕ) (l : Literal) → IsVisiting a w t f start
+    → start < length (list_of w f) → (watch_at w f start).clause ≡ r → literal_of a r 1 ≡ f
+    → AreFalseBelow a t.entries r (len_of a r) → l ≡ literal_of a r 0 → (HasLiteral t.entries l → ⊥) → IsLast a t r l
+last_first a w t f start r l v lt is second rest first not_true =
+    let long = long_of a w t f start r v lt is in record {
+      long = long;
+      member = subst (λ (n : Literal). Contains (entry_at a r).lits n) (sym first) (literal_member a r 0 (omega (arith, long.long)));
+      others = λ k member other. rest_false a t.entries r f second v.made_false rest k member (λ e. other (e ∙ sym first));
+      not_true = not_true;
+    }
 
 pub settled_true : (a : Entries) (w v : WatchLists) (t : TrailState) (f : Literal) (start r : ℕ) (l : Literal)
     → IsVisiting a w t f start → IsWithin w.vars f → start < length (list_of w f) → (watch_at w f start).clause ≡ r
-    → l ≡ literal_of a r 0 → HasLiteral t.entries l → v ≡ with_watch_at w f start (record { clause = r; blocker = l })
+    → l ≡ literal_of a r 0 → HasLiteral t.entries l → v ≡ with_watch_at w f start (record { clause = r; blocker = l; binary = false })
     → (length (list_of v f) ≡ length (list_of w f)) × IsVisiting a v t f (start + 1)
 settled_true a w v t f start r l h within lt is first made new =
-    let x : Watch = record { clause = r; blocker = l } in
+    let x : Watcher = record { clause = r; blocker = l; binary = false } in
     let long = long_of a w t f start r h lt is in
     let member = subst (λ (k : Literal). Contains (entry_at a r).lits k) (sym first) (literal_member a r 0 (omega (arith, long.long))) in
     let u = with_watch_at w f start x in
     let size : length (list_of u f) ≡ length (list_of w f) =
-    ap (λ (xs : List Watch). length xs) (list_set w f (Rattle.std.proofs.Common.set (list_of w f) start x) h.ready.attached.size within)
+    ap (λ (xs : List Watcher). length xs) (list_set w f (Rattle.std.proofs.Common.set (list_of w f) start x) h.ready.attached.size within)
     ∙ length-set (list_of w f) start x in
     subst (λ (z : WatchLists). (length (list_of z f) ≡ length (list_of w f)) × IsVisiting a z t f (start + 1)) (sym new)
     (size, visiting_set a w t f start r l h within lt is long member made)
-
-pub settled_false : (a : Entries) (w : WatchLists) (t : TrailState) (f : Literal) (start r : ℕ) (l : Literal)
-    → IsVisiting a w t f start → start < length (list_of w f) → (watch_at w f start).clause ≡ r → literal_of a r 1 ≡ f
-    → AreFalseBelow a t.entries r (len_of a r) → l ≡ negated (literal_of a r 0) → HasLiteral t.entries l
-    → IsReady a w t × IsFalsified a t.entries r
-settled_false a w t f start r l h lt is second rest first made = (
-  h.ready,
-  falsified a t.entries r f (long_of a w t f start r h lt is) second h.made_false rest (subst
-      (HasLiteral t.entries) first made),
-)
 
 -- the watch moves
 pub record IsMoved (a b : Entries) (w v : WatchLists) (t : TrailState) (f : Literal) (start r k : ℕ) : Type 0 where
@@ -500,7 +542,7 @@ pub record IsMoved (a b : Entries) (w v : WatchLists) (t : TrailState) (f : Lite
   pub second : literal_of a r 1 ≡ f
   pub other : IsOther a t.entries r k
   pub arena : b ≡ with_swap a r 1 k
-  pub lists : v ≡ without_watch (with_watch w (literal_of a r k) (record { clause = r; blocker = literal_of a r 0 })) f start
+  pub lists : v ≡ without_watch (with_watch w (literal_of a r k) (record { clause = r; blocker = literal_of a r 0; binary = false })) f start
 
 pub moved_arena : (a b : Entries) (w v : WatchLists) (t : TrailState) (f : Literal) (start r k : ℕ)
     → IsMoved a b w v t f start r k → IsAdvanced a t b t
@@ -513,30 +555,12 @@ pub moved_watch : (a b : Entries) (w v : WatchLists) (t : TrailState) (f : Liter
     → IsMoved a b w v t f start r k → (length (list_of v f) + 1 ≡ length (list_of w f)) × IsVisiting b v t f start
 moved_watch a b w v t f start r k m =
     let long = long_of a w t f start r m.visiting m.place m.watch in
-    let x : Watch = record { clause = r; blocker = literal_of a r 0 } in
+    let x : Watcher = record { clause = r; blocker = literal_of a r 0; binary = false } in
     let done = visiting_moved a w t f start r k x m.visiting m.within m.place m.watch long m.second m.other refl
-    (record { long = long; blocker = literal_member a r 0 (omega (arith, long.long)) }) in
+    (record { long = long; blocker = literal_member a r 0 (omega (arith, long.long)); pair = λ two. absurd (false≢true two) }) in
     let u = without_watch (with_watch w (literal_of a r k) x) f start in
     subst (λ (z : WatchLists). (length (list_of z f) + 1 ≡ length (list_of w f)) × IsVisiting b z t f start) (sym m.lists)
     (subst (λ (z : Entries). (length (list_of u f) + 1 ≡ length (list_of w f)) × IsVisiting z u t f start) (sym m.arena) done)
-
-pub settled_pushed : (a : Entries) (w : WatchLists) (t u : TrailState) (f : Literal) (start r : ℕ) (l : Literal)
-    → IsVisiting a w t f start → start < length (list_of w f) → (watch_at w f start).clause ≡ r → l ≡ literal_of a r 0
-    → u ≡ with_entry t l t.level (Clause r) → IsVisiting a w u f (start + 1)
-settled_pushed a w t u f start r l h lt is first new =
-    subst (λ (z : TrailState). IsVisiting a w z f (start + 1)) (sym (new ∙ ap (λ (k : Literal). with_entry t k t.level (Clause r)) first))
-    (visiting_pushed a w t f start r h lt is (long_of a w t f start r h lt is))
-
-pub pushed_trail : (a : Entries) (w : WatchLists) (t u : TrailState) (f : Literal) (start r : ℕ) (l n : Literal)
-    → IsVisiting a w t f start → start < length (list_of w f) → (watch_at w f start).clause ≡ r → literal_of a r 1 ≡ f
-    → AreFalseBelow a t.entries r (len_of a r) → l ≡ literal_of a r 0 → n ≡ negated l
-    → (HasLiteral t.entries l → ⊥) → (HasLiteral t.entries n → ⊥)
-    → u ≡ with_entry t l t.level (Clause r) → IsAdvanced a t a u
-pushed_trail a w t u f start r l n h lt is second rest first neg not_true not_false new =
-    let free = free_of_open t.entries l not_true (λ made. not_false (subst (HasLiteral t.entries) (sym neg) made)) in
-    subst (λ (z : TrailState). IsAdvanced a t a z) (sym (new ∙ ap (λ (k : Literal). with_entry t k t.level (Clause r)) first))
-    (advanced_pushed a t r f (long_of a w t f start r h lt is) second h.made_false rest (subst
-    (λ (k : Literal). IsFree t.entries k.var) first free))
 
 -- ---- the false literal comes to the second place
 

@@ -1,4 +1,5 @@
 pub mod Clauses
+pub mod Watchers
 pub mod Lists
 pub mod Watching
 pub mod Propagating

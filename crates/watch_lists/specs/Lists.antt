@@ -1,13 +1,13 @@
 -- The lists of watches: one for each literal, with the clauses that watch it.
-use Rattle.std.specs.Prelude.{◌≡◌, ℕ, ◌+◌, ◌*◌, ◌<◌, ◌≤◌, List, [], ◌∷◌, ◌++◌, length, replicate, slice_index_or, slice_set, swap_remove, Contains}
+use Rattle.std.specs.Prelude.{◌≡◌, ◌≢◌, ℕ, ◌+◌, ◌*◌, ◌<◌, ◌≤◌, ◌==◌, true, false, List, [], ◌∷◌, ◌++◌, length, replicate, slice_index_or, slice_set, swap_remove, Contains}
 use Rattle.cnf_core.specs.Literals.{Literal, code_of}
-use Rattle.clause_arena.specs.Entries.{Entries, no_literal, entry_at, literal_of}
-use Rattle.watch_lists.specs.declared.watches.Watch.{Watch}
+use Rattle.clause_arena.specs.Entries.{Entries, no_literal, entry_at, len_of, literal_of}
+use Rattle.watch_lists.specs.Watchers.{Watcher}
 use Rattle.watch_lists.specs.Clauses.{IsLong, AreClean}
 
 -- the lists, by the packed forms of their literals, and for how many variables they were made
 pub record WatchLists : Type 0 where
-  pub lists : List (List Watch)
+  pub lists : List (List Watcher)
   pub vars : ℕ
 
 -- there is a list for each literal
@@ -15,15 +15,15 @@ abbrev pub IsSized : WatchLists → Type 0
 IsSized w = length w.lists ≡ 2 * w.vars + 2
 
 -- what reads give past the end
-abbrev pub no_watch : Watch
-no_watch = record { clause = 0; blocker = no_literal }
+abbrev pub no_watch : Watcher
+no_watch = record { clause = 0; blocker = no_literal; binary = false }
 
 -- the list of a literal
-abbrev pub list_of : WatchLists → Literal → List Watch
+abbrev pub list_of : WatchLists → Literal → List Watcher
 list_of w l = slice_index_or w.lists (code_of l) []
 
 -- one of its watches
-abbrev pub watch_at : WatchLists → Literal → ℕ → Watch
+abbrev pub watch_at : WatchLists → Literal → ℕ → Watcher
 watch_at w l k = slice_index_or (list_of w l) k no_watch
 
 -- lists without watches
@@ -31,35 +31,41 @@ abbrev pub empty_lists : ℕ → WatchLists
 empty_lists vars = record { lists = replicate (2 * vars + 2) []; vars = vars }
 
 -- the lists with one of them another
-abbrev pub with_list : WatchLists → Literal → List Watch → WatchLists
+abbrev pub with_list : WatchLists → Literal → List Watcher → WatchLists
 with_list w l xs = record w { lists = slice_set w.lists (code_of l) xs }
 
 -- with one watch more in a list
-abbrev pub with_watch : WatchLists → Literal → Watch → WatchLists
+abbrev pub with_watch : WatchLists → Literal → Watcher → WatchLists
 with_watch w l x = with_list w l (list_of w l ++ x ∷ [])
 
 -- with another watch at a place of a list
-abbrev pub with_watch_at : WatchLists → Literal → ℕ → Watch → WatchLists
+abbrev pub with_watch_at : WatchLists → Literal → ℕ → Watcher → WatchLists
 with_watch_at w l k x = with_list w l (slice_set (list_of w l) k x)
 
 -- with the watch of a place taken out, and the list's last one in its place
 abbrev pub without_watch : WatchLists → Literal → ℕ → WatchLists
 without_watch w l k = with_list w l (swap_remove (list_of w l) k no_watch)
 
+-- the watch of a clause with this blocker
+abbrev pub watcher_of : Entries → ℕ → Literal → Watcher
+watcher_of a r blocker = record { clause = r; blocker = blocker; binary = len_of a r == 2 }
+
 -- with the clause in the lists of its first two literals, each the other's blocker
 abbrev pub with_clause : WatchLists → Entries → ℕ → WatchLists
 with_clause w a r =
     let first = literal_of a r 0 in
     let second = literal_of a r 1 in
-    with_watch (with_watch w first (record { clause = r; blocker = second })) second (record { clause = r; blocker = first })
+    with_watch (with_watch w first (watcher_of a r second)) second (watcher_of a r first)
 
--- the watch is of a live clause of two or more literals, and its blocker is one of these
-pub record IsSound (a : Entries) (x : Watch) : Type 0 where
+-- the watch is of a live clause of two or more literals, and its blocker is one of these; where it says that
+-- there are just two, they are the literal of its list and the blocker
+pub record IsSound (a : Entries) (l : Literal) (x : Watcher) : Type 0 where
   pub long : IsLong a x.clause
   pub blocker : Contains (entry_at a x.clause).lits x.blocker
+  pub pair : x.binary ≡ true → (k : Literal) → Contains (entry_at a x.clause).lits k → k ≢ x.blocker → k ≡ l
 
 -- the list has a watch of the clause, at this place or a later one
-pub record HasWatchFrom (xs : List Watch) (r start : ℕ) : Type 0 where
+pub record HasWatchFrom (xs : List Watcher) (r start : ℕ) : Type 0 where
   pub place : ℕ
   pub from : start ≤ place
   pub within : place < length xs
@@ -69,6 +75,5 @@ pub record HasWatchFrom (xs : List Watch) (r start : ℕ) : Type 0 where
 pub record IsAttached (a : Entries) (w : WatchLists) : Type 0 where
   pub size : IsSized w
   pub clean : AreClean w.vars a
-  pub sound : (code k : ℕ) → k < length (slice_index_or w.lists code [])
-      → IsSound a (slice_index_or (slice_index_or w.lists code []) k no_watch)
+  pub sound : (l : Literal) (k : ℕ) → k < length (list_of w l) → IsSound a l (watch_at w l k)
   pub complete : (r i : ℕ) → IsLong a r → i < 2 → HasWatchFrom (list_of w (literal_of a r i)) r 0

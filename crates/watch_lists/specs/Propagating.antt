@@ -3,7 +3,8 @@ use Rattle.std.specs.Prelude.{◌≡◌, ℕ, ◌+◌, ◌<◌, ◌≤◌, ◌�
 use Rattle.cnf_core.specs.Literals.{Literal, negated}
 use Rattle.clause_arena.specs.Entries.{Entries, entry_at, len_of, literal_of}
 use Rattle.trail_core.specs.declared.entry.Assigned.{Assigned}
-use Rattle.trail_core.specs.Trails.{TrailState, assigned_at, HasLiteral}
+use Rattle.trail_core.specs.Trails.{TrailState, assigned_at, HasLiteral, with_entry}
+use Rattle.trail_core.specs.declared.entry.Reason.TheVariants.{Clause}
 use Rattle.watch_lists.specs.declared.step.Step.{Step}
 use Rattle.watch_lists.specs.declared.step.Step.TheVariants.{Quiet, Conflict, Memory}
 use Rattle.watch_lists.specs.declared.step.Fate.{Fate}
@@ -68,6 +69,13 @@ FateSays Keep b w v u f start = (length (list_of v f) ≡ length (list_of w f)) 
 FateSays Move b w v u f start = (length (list_of v f) + 1 ≡ length (list_of w f)) × IsVisiting b v u f start
 FateSays (Falsified r) b w v u f start = IsReady b v u × IsFalsified b u.entries r
 FateSays NoRoom b w v u f start = IsReady b v u
+
+-- what becomes of a clause whose other literals are false: its last one is pushed, or is false too
+abbrev pub ForceSays : Fate → TrailState → TrailState → Literal → ℕ → Type 0
+ForceSays Keep t u l r = (HasLiteral t.entries (negated l) → ⊥) × (u ≡ with_entry t l t.level (Clause r))
+ForceSays Move t u l r = ⊥
+ForceSays (Falsified s) t u l r = HasLiteral t.entries (negated l) × (s ≡ r) × (u ≡ t)
+ForceSays NoRoom t u l r = ⊥
 
 -- what the walk through a list ends with
 abbrev pub VisitSays : Step → Entries → WatchLists → TrailState → Literal → Type 0

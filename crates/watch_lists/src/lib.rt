@@ -2,7 +2,8 @@
 //!
 //! Each live clause of two or more literals is in the lists of its first two. Contracts see [`Watches`] as
 //! these lists (`specs/Lists`); `specs/Watching` has the rule that ties arena, watches and trail, and
-//! `specs/Propagating` what a propagation does. Lemmas by which callers keep the rule across their own
+//! `specs/Propagating` what a propagation does. A clause of just two literals is never looked at: its watches
+//! say all of it. Lemmas by which callers keep the rule across their own
 //! steps stand in `proofs/Kept`.
 #![tactic(auto)]
 
@@ -10,6 +11,7 @@ pub mod laws;
 mod step;
 #[cfg(test)]
 mod tests;
+mod watch;
 mod watches;
 
 pub use step::Step;

@@ -5,23 +5,16 @@ ghost use Rattle.trail_core.specs.Trails.{HasLiteral};
 ghost use Rattle.watch_lists.specs.Clauses.{IsLong, IsClean, AreClean, IsReordered};
 ghost use Rattle.watch_lists.specs.Lists.{IsSized, list_of, watch_at, empty_lists, with_watch, with_watch_at, without_watch, with_clause, IsAttached};
 ghost use Rattle.watch_lists.specs.Watching.{IsReady};
-ghost use Rattle.watch_lists.specs.Propagating.{IsOther, AreFalseBelow, IsPropagated, StepSays, IsAdvanced, IsVisiting, FateSays, VisitSays};
+ghost use Rattle.watch_lists.specs.Propagating.{IsOther, AreFalseBelow, IsPropagated, StepSays, IsAdvanced, IsVisiting, FateSays, ForceSays, VisitSays};
 
 use crate::Step;
 use crate::step::Fate;
+use crate::watch::Watch;
 use clause_arena::{Arena, ClauseRef};
 use cnf_core::{Lit, NoMemory};
 use std::alloc::Global;
 use std::marker::Model;
 use trail_core::{Reason, Trail};
-
-/// A clause that watches a literal, with another of its literals: where that one is true, there is no need
-/// to look at the clause.
-#[derive(Clone, Copy, Debug)]
-pub struct Watch {
-    clause: ClauseRef,
-    blocker: Lit,
-}
 
 /// For each literal the clauses that watch it.
 ///
@@ -117,23 +110,15 @@ impl Watches {
         ensures ok { OnOk result (self.new ≡ with_clause self.old arena.now r) }
         ensures err { OnErr result (self.new ≡ self.old) }
     {
+        if r.place() >= LIMIT {
+            return Err(NoMemory);
+        }
         let first = arena.lit(r, 0);
         let second = arena.lit(r, 1);
+        let binary = arena.len_of(r) == 2;
         let place = self.count(first);
-        self.add(
-            first,
-            Watch {
-                clause: r,
-                blocker: second,
-            },
-        )?;
-        match self.add(
-            second,
-            Watch {
-                clause: r,
-                blocker: first,
-            },
-        ) {
+        self.add(first, Watch::new(r, second, binary))?;
+        match self.add(second, Watch::new(r, first, binary)) {
             Ok(()) => {}
             Err(error) => {
                 self.take_out(first, place);
@@ -230,8 +215,9 @@ impl Watches {
         Step::Quiet
     }
 
-    /// Looks at one watch of a false literal. Where the clause is looked at, the literal comes to its second
-    /// place; where it is in neither of the first two, the watch is out of date.
+    /// Looks at one watch of a false literal. A clause of two literals isn't looked at itself. Where another
+    /// one is, the literal comes to its second place; where it is in neither of the first two, the watch is
+    /// out of date.
     #[inline(always)]
     fn look(&mut self, arena: &mut Arena, trail: &mut Trail, lit: Lit, at: usize) -> Fate
         requires visiting { IsVisiting arena.old self.old trail.old lit at }
@@ -241,10 +227,14 @@ impl Watches {
         ensures fate { FateSays result arena.new self.old self.new trail.new lit at }
     {
         let watch = self.get(lit, at);
-        if trail.is_true(watch.blocker) {
+        let blocker = watch.blocker();
+        if trail.is_true(blocker) {
             return Fate::Keep;
         }
-        let r = watch.clause;
+        let r = watch.clause();
+        if watch.is_binary() {
+            return force(trail, blocker, r);
+        }
         if arena.lit(r, 0) == lit {
             arena.swap(r, 0, 1);
         } else if arena.lit(r, 1) != lit {
@@ -269,31 +259,19 @@ impl Watches {
         requires within { IsWithin self.old.vars lit }
         requires place { at < length (list_of self.old lit) }
         requires watch { (watch_at self.old lit at).clause ≡ r }
+        requires named { r < 2 ^ 31 }
         requires second { literal_of arena.old r 1 ≡ lit }
         ensures advanced { IsAdvanced arena.old trail.old arena.new trail.new }
         ensures fate { FateSays result arena.new self.old self.new trail.new lit at }
     {
         let first = arena.lit(r, 0);
         if trail.is_true(first) {
-            self.set(
-                lit,
-                at,
-                Watch {
-                    clause: r,
-                    blocker: first,
-                },
-            );
+            self.set(lit, at, Watch::new(r, first, false));
             return Fate::Keep;
         }
         match find_other(arena, trail, r) {
             Some(k) => {
-                match self.add(
-                    arena.lit(r, k),
-                    Watch {
-                        clause: r,
-                        blocker: first,
-                    },
-                ) {
+                match self.add(arena.lit(r, k), Watch::new(r, first, false)) {
                     Ok(()) => {}
                     Err(_) => return Fate::NoRoom,
                 }
@@ -301,15 +279,23 @@ impl Watches {
                 self.take_out(lit, at);
                 Fate::Move
             }
-            None => {
-                if trail.is_true(first.negated()) {
-                    return Fate::Falsified(r);
-                }
-                trail.push(first, Reason::Clause(r));
-                Fate::Keep
-            }
+            None => force(trail, first, r),
         }
     }
+}
+
+/// Makes the last literal of a clause true, where all others are false; the clause is false where that one is.
+#[inline(always)]
+fn force(trail: &mut Trail, lit: Lit, r: ClauseRef) -> Fate
+    requires within { IsWithin trail.old.vars lit }
+    requires not_true { HasLiteral trail.old.entries lit → ⊥ }
+    ensures { ForceSays result trail.old trail.new lit r }
+{
+    if trail.is_true(lit.negated()) {
+        return Fate::Falsified(r);
+    }
+    trail.push(lit, Reason::Clause(r));
+    Fate::Keep
 }
 
 /// The first place behind the watches with a literal that isn't false, if there is one.
@@ -328,3 +314,6 @@ fn find_other(arena: &Arena, trail: &Trail, r: ClauseRef) -> Option<u64>
     }
     None
 }
+
+/// A watch names clauses by 31 bits: to attach one behind them is refused as want of memory.
+const LIMIT: u32 = 1 << 31;

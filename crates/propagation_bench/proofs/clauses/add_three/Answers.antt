@@ -9,5 +9,5 @@ pub returns : goal.returns
 returns c n old first second third =
     let apart = c.are_apart.ensures c.if-not-are_apart.false in
     subst (λ (a : Entries). AreClean n a) (sym c.in_ok-add.ensures.added)
-    (clean_added n c.args.arena.now (new_entry c.from.result (c.args.first ∷ c.args.second ∷ c.args.third ∷ []) false) old
+    (clean_added n c.args.arena.now (new_entry c.from-id.result (c.args.first ∷ c.args.second ∷ c.args.third ∷ []) false) old
     (clean_three n c.args.first c.args.second c.args.third first second third apart.0 apart.1 apart.2))

@@ -2,7 +2,6 @@
 use Rattle.std.proofs.Common.{ℕ, [], ◌∷◌, ◌++◌, length, ap, ◌∙◌, sym, subst, arith}
 use Rattle.std.proofs.lemmas.List.{length_push}
 use Rattle.cnf_core.specs.Literals.{IsWithin}
-use Rattle.watch_lists.specs.declared.watches.Watch.{Watch}
 use Rattle.watch_lists.specs.Lists.{WatchLists, list_of, with_watch, without_watch}
 use Rattle.watch_lists.proofs.Attached.{added_and_removed, list_set}
 use Rattle.watch_lists.proofs.watches.Watches.attach.Goals as goal
@@ -10,7 +9,7 @@ use Rattle.watch_lists.proofs.watches.Watches.attach.Goals as goal
 pub take_out-requires-clause-place : goal.take_out-requires-clause-place
 take_out-requires-clause-place c =
     let w : WatchLists = c.args.self.now in
-    let x : Watch = record { clause = c.args.r; blocker = c.lit-second.result } in
+    let x = c.new.result in
     let within : IsWithin w.vars c.lit-first.result =
     subst (IsWithin w.vars) (sym c.lit-first.ensures) (c.requires.clean.within 0 (omega (arith, c.requires.long.long))) in
     let now = c.in-Err.ensures.err ∙ c.in_ok-add.ensures.ok in
@@ -22,7 +21,7 @@ take_out-requires-clause-place c =
 pub returns-in-Err-clause-err : goal.returns-in-Err-clause-err
 returns-in-Err-clause-err c =
     let w : WatchLists = c.args.self.now in
-    let x : Watch = record { clause = c.args.r; blocker = c.lit-second.result } in
+    let x = c.new.result in
     let within : IsWithin w.vars c.lit-first.result =
     subst (IsWithin w.vars) (sym c.lit-first.ensures) (c.requires.clean.within 0 (omega (arith, c.requires.long.long))) in
     c.take_out.ensures

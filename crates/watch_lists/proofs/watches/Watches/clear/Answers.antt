@@ -1,6 +1,6 @@
 use Rattle.std.proofs.Common.{◌≡◌, ◌+◌, ◌*◌, List, [], length, replicate, ap, ◌∙◌, subst, arith}
 use Rattle.std.specs.Vec.{with_items}
-use Rattle.watch_lists.specs.declared.watches.Watch.{Watch}
+use Rattle.watch_lists.specs.Watchers.{Watcher}
 use Rattle.watch_lists.specs.Lists.{WatchLists, empty_lists}
 use Rattle.watch_lists.proofs.Viewed.{lists_in, held, clear_more, all_clear, refilled}
 use Rattle.watch_lists.proofs.watches.Watches.clear.Goals as goal
@@ -20,4 +20,4 @@ returns c =
     subst
     (λ (w : WatchLists). held (with_items c.self.inside.lists c.loop-list.list-items).items c.self.inside.vars ≡ empty_lists w.vars)
     c.self.view_is
-    (ap (λ (ls : List (List Watch)). record { lists = ls; vars = c.self.inside.vars }) (ap lists_in lists ∙ none))
+    (ap (λ (ls : List (List Watcher)). record { lists = ls; vars = c.self.inside.vars }) (ap lists_in lists ∙ none))

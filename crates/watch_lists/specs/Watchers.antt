@@ -1,0 +1,22 @@
+-- A watch as contracts see it, and its packed form.
+use Rattle.std.specs.Prelude.{◌≡◌, ℕ, ◌+◌, ◌*◌, ◌/◌, ◌%◌, ◌==◌, Bool, if◌then◌else◌}
+use Rattle.std.proofs.Common.{arith}
+use Rattle.cnf_core.specs.Literals.{Literal}
+
+-- a clause that watches a literal, another of its literals, and whether it has just two
+pub record Watcher : Type 0 where
+  pub clause : ℕ
+  pub blocker : Literal
+  pub binary : Bool
+
+-- the packed form of clause and mark: twice the clause, and 1 more where it has just two literals
+abbrev pub watcher_code : Watcher → ℕ
+watcher_code x = 2 * x.clause + (if x.binary then 1 else 0)
+
+-- the watch of a packed form
+abbrev pub watcher_of_code : ℕ → Literal → Watcher
+watcher_of_code code blocker = record { clause = code / 2; blocker = blocker; binary = code % 2 == 1 }
+
+-- the packed form gives the watch, and the watch the packed form
+pub watcher_code-of_code : (code : ℕ) (blocker : Literal) → watcher_code (watcher_of_code code blocker) ≡ code
+watcher_code-of_code code blocker = grind arith

@@ -1,0 +1,70 @@
+ghost use Rattle.std.specs.Prelude.{◌≡◌, ◌<◌, ◌^◌};
+
+use clause_arena::ClauseRef;
+use cnf_core::Lit;
+use std::marker::Model;
+
+/// A clause that watches a literal, with another of its literals, the blocker: where that one is true, there
+/// is no need to look at the clause. The watch knows whether its clause has just two literals: then there is
+/// none at all, since the clause has only the watched literal and the blocker.
+///
+/// A watch has 8 bytes, of which the lists are made that propagation goes through.
+#[derive(Clone, Copy, Debug)]
+pub struct Watch {
+    /// Twice the clause's place, and 1 more where the clause has just two literals.
+    code: u32,
+    blocker: Lit,
+}
+
+impl Model for Watch {
+    ghost use Rattle.std.specs.Prelude.{ℕ, ◌+◌, ◌*◌};
+    ghost use Rattle.std.proofs.Common.{ap};
+    ghost use Rattle.watch_lists.specs.Watchers.{Watcher, watcher_of_code, watcher_code, watcher_code-of_code};
+
+    ghost Value = { Watcher };
+
+    ghost view = { λ w. watcher_of_code w.code w.blocker };
+
+    ghost inverse = { λ x. record { code = watcher_code x; blocker = x.blocker } };
+
+    ghost inverse_ok = { λ w h. ap (λ c. record { code = c; blocker = w.blocker }) (watcher_code-of_code w.code w.blocker) };
+}
+
+impl Watch {
+    /// A watch of a clause whose place is below 2^31.
+    #[inline(always)]
+    pub fn new(clause: ClauseRef, blocker: Lit, binary: bool) -> Watch
+        requires { clause < 2 ^ 31 }
+        ensures { result ≡ record { clause = clause; blocker = blocker; binary = binary } }
+    {
+        Watch {
+            code: 2 * clause.place() + u32::from(binary),
+            blocker,
+        }
+    }
+
+    /// Its clause.
+    #[inline(always)]
+    pub fn clause(self) -> ClauseRef
+        ensures value { result ≡ self.clause }
+        ensures range { result < 2 ^ 31 }
+    {
+        ClauseRef::at(self.code / 2)
+    }
+
+    /// Another literal of the clause than the watched one.
+    #[inline(always)]
+    pub fn blocker(self) -> Lit
+        ensures { result ≡ self.blocker }
+    {
+        self.blocker
+    }
+
+    /// Whether the clause has just two literals.
+    #[inline(always)]
+    pub fn is_binary(self) -> bool
+        ensures { result ≡ self.binary }
+    {
+        self.code % 2 == 1
+    }
+}
