@@ -24,7 +24,7 @@ struct Numbers {
 };
 
 struct Watch {
-    uint32_t code;  // twice the clause, and 1 more where it has two literals
+    uint32_t code;  // the clause, and 2^31 more where it has two literals
     Lit blocker;
 };
 
@@ -34,7 +34,7 @@ struct Assigned {
     uint64_t reason;
 };
 
-static const uint32_t none = UINT32_MAX;
+static const uint32_t none = UINT32_MAX, two_mark = 1u << 31;
 
 struct Solver {
     uint32_t vars;
@@ -57,7 +57,7 @@ struct Solver {
     void attach() {
         for (uint32_t r = 0; r + 1 < starts.size(); r++) {
             Lit first = lits[starts[r]], second = lits[starts[r] + 1];
-            uint32_t code = 2 * r + (starts[r + 1] - starts[r] == 2 ? 1 : 0);
+            uint32_t code = r + (starts[r + 1] - starts[r] == 2 ? two_mark : 0);
             lists[first].push_back({code, second});
             lists[second].push_back({code, first});
         }
@@ -99,8 +99,8 @@ struct Solver {
                     at++;
                     continue;
                 }
-                uint32_t r = watch.code / 2;
-                if (watch.code % 2 == 1) {
+                uint32_t r = watch.code % two_mark;
+                if (watch.code >= two_mark) {
                     if (truth[watch.blocker ^ 1]) return r;
                     push(watch.blocker, r);
                     at++;

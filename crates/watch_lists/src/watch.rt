@@ -4,6 +4,9 @@ use clause_arena::ClauseRef;
 use cnf_core::Lit;
 use std::marker::Model;
 
+/// How many places a watch can name: 2^31.
+pub const PLACES: u32 = 1 << 31;
+
 /// A clause that watches a literal, with another of its literals, the blocker: where that one is true, there
 /// is no need to look at the clause. The watch knows whether its clause has just two literals: then there is
 /// none at all, since the clause has only the watched literal and the blocker.
@@ -11,13 +14,13 @@ use std::marker::Model;
 /// A watch has 8 bytes, of which the lists are made that propagation goes through.
 #[derive(Clone, Copy, Debug)]
 pub struct Watch {
-    /// Twice the clause's place, and 1 more where the clause has just two literals.
+    /// The clause's place, and 2^31 more where the clause has just two literals.
     code: u32,
     blocker: Lit,
 }
 
 impl Model for Watch {
-    ghost use Rattle.std.specs.Prelude.{ℕ, ◌+◌, ◌*◌};
+    ghost use Rattle.std.specs.Prelude.{ℕ, ◌<◌, ◌^◌};
     ghost use Rattle.std.proofs.Common.{ap};
     ghost use Rattle.watch_lists.specs.Watchers.{Watcher, watcher_of_code, watcher_code, watcher_code-of_code};
 
@@ -25,9 +28,11 @@ impl Model for Watch {
 
     ghost view = { λ w. watcher_of_code w.code w.blocker };
 
+    ghost invariant = { λ w. w.code < 2 ^ 32 };
+
     ghost inverse = { λ x. record { code = watcher_code x; blocker = x.blocker } };
 
-    ghost inverse_ok = { λ w h. ap (λ c. record { code = c; blocker = w.blocker }) (watcher_code-of_code w.code w.blocker) };
+    ghost inverse_ok = { λ w h. ap (λ c. record { code = c; blocker = w.blocker }) (watcher_code-of_code w.code w.blocker h) };
 }
 
 impl Watch {
@@ -37,8 +42,9 @@ impl Watch {
         requires { clause < 2 ^ 31 }
         ensures { result ≡ record { clause = clause; blocker = blocker; binary = binary } }
     {
+        let mark = if binary { PLACES } else { 0 };
         Watch {
-            code: 2 * clause.place() + u32::from(binary),
+            code: clause.place() + mark,
             blocker,
         }
     }
@@ -49,7 +55,7 @@ impl Watch {
         ensures value { result ≡ self.clause }
         ensures range { result < 2 ^ 31 }
     {
-        ClauseRef::at(self.code / 2)
+        ClauseRef::at(self.code % PLACES)
     }
 
     /// Another literal of the clause than the watched one.
@@ -65,6 +71,6 @@ impl Watch {
     pub fn is_binary(self) -> bool
         ensures { result ≡ self.binary }
     {
-        self.code % 2 == 1
+        self.code >= PLACES
     }
 }

@@ -9,7 +9,7 @@ ghost use Rattle.watch_lists.specs.Propagating.{IsOther, AreFalseBelow, IsPropag
 
 use crate::Step;
 use crate::step::Fate;
-use crate::watch::Watch;
+use crate::watch::{PLACES, Watch};
 use clause_arena::{Arena, ClauseRef};
 use cnf_core::{Lit, NoMemory};
 use std::alloc::Global;
@@ -103,14 +103,14 @@ impl Watches {
     }
 
     /// Attaches a live clause of two or more literals: puts it into the lists of its first two. Without
-    /// memory for it the lists stay as they were.
+    /// memory for it the lists stay as they were; a clause at a place from 2^31 on is refused as that.
     pub fn attach(&mut self, arena: &Arena, r: ClauseRef) -> Result<(), NoMemory>
         requires long { IsLong arena.now r }
         requires clean { IsClean self.old.vars (entry_at arena.now r).lits }
         ensures ok { OnOk result (self.new ≡ with_clause self.old arena.now r) }
         ensures err { OnErr result (self.new ≡ self.old) }
     {
-        if r.place() >= LIMIT {
+        if r.place() >= PLACES {
             return Err(NoMemory);
         }
         let first = arena.lit(r, 0);
@@ -314,6 +314,3 @@ fn find_other(arena: &Arena, trail: &Trail, r: ClauseRef) -> Option<u64>
     }
     None
 }
-
-/// A watch names clauses by 31 bits: to attach one behind them is refused as want of memory.
-const LIMIT: u32 = 1 << 31;
