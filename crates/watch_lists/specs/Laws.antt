@@ -1,11 +1,12 @@
 -- What holds of every arena, lists and trail that are ready for propagation.
-use Rattle.std.specs.Prelude.{◌≡◌, ℕ, ◌<◌, ◌≤◌, true, length}
+use Rattle.std.specs.Prelude.{◌≡◌, ℕ, ◌<◌, ◌≤◌, ◌⊎◌, true, length}
 use Rattle.cnf_core.specs.Literals.{Assignment, is_true, clause_true}
 use Rattle.clause_arena.specs.Entries.{Entries, entry_at}
 use Rattle.trail_core.specs.Trails.{TrailState, assigned_at, HasVariable, IsTrail, IsBacktracked}
 use Rattle.watch_lists.specs.Clauses.{IsLong, AreClean, IsSettledBelow}
 use Rattle.watch_lists.specs.Lists.{WatchLists}
 use Rattle.watch_lists.specs.Watching.{IsWatched, IsReady}
+use Rattle.watch_lists.specs.Propagating.{HasTrue}
 
 -- the assignment makes each entry's literal true
 abbrev pub Agrees : Assignment → TrailState → Type 0
@@ -16,11 +17,12 @@ pub record IsComplete (t : TrailState) : Type 0 where
   pub quiet : t.gone ≡ length t.entries
   pub valued : (v : ℕ) → 0 < v → v ≤ t.vars → HasVariable t.entries v
 
--- a quiet trail that values all variables is a model of the clauses of two or more literals
+-- a quiet trail that values all variables is a model, where each clause has two or more literals, or one that
+-- stands on the trail
 abbrev pub QuietTrailIsModel : Type 0
 QuietTrailIsModel = (a : Entries) (t : TrailState) (m : Assignment) → IsTrail t → IsWatched a t
     → AreClean t.vars a → IsComplete t → Agrees m t
-    → (r : ℕ) → IsLong a r → clause_true m (entry_at a r).lits ≡ true
+    → (r : ℕ) → IsLong a r ⊎ HasTrue a t.entries r → clause_true m (entry_at a r).lits ≡ true
 
 -- going back to a level keeps all ready
 abbrev pub ReadyAfterBacktrack : Type 0

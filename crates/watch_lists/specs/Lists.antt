@@ -1,5 +1,5 @@
 -- The lists of watches: one for each literal, with the clauses that watch it.
-use Rattle.std.specs.Prelude.{◌≡◌, ◌≢◌, ℕ, ◌+◌, ◌*◌, ◌<◌, ◌≤◌, ◌==◌, true, false, List, [], ◌∷◌, ◌++◌, length, replicate, slice_index_or, slice_set, swap_remove, Contains}
+use Rattle.std.specs.Prelude.{◌≡◌, ◌≢◌, ℕ, zero, suc, ◌+◌, ◌*◌, ◌<◌, ◌≤◌, ◌==◌, ◌&&◌, nat_le, if◌then◌else◌, true, false, List, [], ◌∷◌, ◌++◌, length, replicate, slice_index_or, slice_set, swap_remove, Contains}
 use Rattle.cnf_core.specs.Literals.{Literal, code_of}
 use Rattle.clause_arena.specs.Entries.{Entries, no_literal, entry_at, len_of, literal_of}
 use Rattle.watch_lists.specs.Watchers.{Watcher}
@@ -56,6 +56,12 @@ with_clause w a r =
     let first = literal_of a r 0 in
     let second = literal_of a r 1 in
     with_watch (with_watch w first (watcher_of a r second)) second (watcher_of a r first)
+
+-- the lists with each of the first n clauses in them that is live and has two or more literals
+abbrev pub with_clauses : WatchLists → Entries → ℕ → WatchLists
+with_clauses w a zero = w
+with_clauses w a (suc n) =
+    if (entry_at a n).live && nat_le 2 (len_of a n) then with_clause (with_clauses w a n) a n else with_clauses w a n
 
 -- the watch is of a live clause of two or more literals, and its blocker is one of these; where it says that
 -- there are just two, they are the literal of its list and the blocker

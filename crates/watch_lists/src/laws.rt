@@ -2,7 +2,8 @@
 ghost use Rattle.watch_lists.specs.Laws.{QuietTrailIsModel, ReadyAfterBacktrack, SettledBelowLevel};
 
 /// Where every entry was propagated and every variable has a value, each assignment that the trail agrees
-/// with is a model of the live clauses of two or more literals.
+/// with makes each live clause of two or more literals true, and each one that has a literal on the trail. So
+/// it is a model, where the literals of the shorter clauses stand at the root.
 pub fn quiet_trail_is_model()
     ensures { QuietTrailIsModel }
 {}

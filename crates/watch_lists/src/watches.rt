@@ -3,7 +3,7 @@ ghost use Rattle.cnf_core.specs.Literals.{IsWithin, negated};
 ghost use Rattle.clause_arena.specs.Entries.{entry_at, len_of, literal_of};
 ghost use Rattle.trail_core.specs.Trails.{HasLiteral};
 ghost use Rattle.watch_lists.specs.Clauses.{IsLong, IsClean, AreClean, IsReordered};
-ghost use Rattle.watch_lists.specs.Lists.{IsSized, list_of, watch_at, empty_lists, with_watch, with_watch_at, without_watch, with_clause, IsAttached};
+ghost use Rattle.watch_lists.specs.Lists.{IsSized, list_of, watch_at, empty_lists, with_watch, with_watch_at, without_watch, with_clause, with_clauses, IsAttached};
 ghost use Rattle.watch_lists.specs.Watching.{IsReady};
 ghost use Rattle.watch_lists.specs.Propagating.{IsOther, AreFalseBelow, IsPropagated, StepSays, IsAdvanced, IsVisiting, FateSays, ForceSays, VisitSays};
 
@@ -132,7 +132,8 @@ impl Watches {
     /// memory for it nothing is attached.
     pub fn rebuild(&mut self, arena: &Arena) -> Result<(), NoMemory>
         requires { AreClean self.old.vars arena.now }
-        ensures ok { OnOk result (IsAttached arena.now self.new) }
+        ensures ok { OnOk result (self.new ≡ with_clauses (empty_lists self.old.vars) arena.now (length arena.now)) }
+        ensures attached { OnOk result (IsAttached arena.now self.new) }
         ensures err { OnErr result (self.new ≡ empty_lists self.old.vars) }
         ensures vars { self.new.vars ≡ self.old.vars }
     {

@@ -26,5 +26,5 @@ decide-requires-2 g c =
     let u = c.backtrack.new.self in
     let vars : c.rebuild-2.new.self.vars ≡ u.vars = c.in_ok-rebuild-2.ensures.vars ∙ h.ready.vars ∙ sym c.backtrack.ensures.vars in
     subst (λ (t : TrailState). IsReady c.compact.new.self c.rebuild-2.new.self t) (sym c.set_gone.ensures)
-    (ready_attached c.compact.new.self c.rebuild-2.new.self u c.in_ok-rebuild-2.ensures.ok vars c.len.ensures.trail
+    (ready_attached c.compact.new.self c.rebuild-2.new.self u c.in_ok-rebuild-2.ensures.attached vars c.len.ensures.trail
     c.backtrack.ensures.level)
