@@ -151,7 +151,10 @@ none_listed vars code k lt =
     let e : get_or (replicate (2 * vars + 2) (let none : List Watcher = [] in none)) code [] ≡ [] = ⊎_elim
     (λ (inside : code < 2 * vars + 2). get_or-replicate (2 * vars + 2) code [] [] inside)
     (λ (past : 2 * vars + 2 ≤ code).
-    get_or_past (replicate (2 * vars + 2) []) code [] (omega (arith, length-replicate (2 * vars + 2) (let none : List Watcher = [] in none))))
+    get_or_past (replicate (2 * vars + 2) []) code [] (omega (
+      arith,
+      length-replicate (2 * vars + 2) (let none : List Watcher = [] in none),
+    )))
     (cases_lt code (2 * vars + 2)) in
     omega (arith, ap (λ (xs : List Watcher). length xs) e)
 

@@ -192,13 +192,17 @@ visiting_blocked a w t f start v lt made =
           (record { lit = x.blocker; member = s.blocker; made = made }) (λ s later. later);
     }
 
+-- a watch of a clause that has to be looked at
+abbrev pub unmarked : ℕ → Literal → Watcher
+unmarked r l = record { clause = r; blocker = l; binary = false }
+
 -- the clause has a true literal, which becomes the blocker
 pub visiting_set : (a : Entries) (w : WatchLists) (t : TrailState) (f : Literal) (start r : ℕ) (l : Literal) → IsVisiting a w t f start
     → IsWithin w.vars f → start < length (list_of w f) → (watch_at w f start).clause ≡ r → IsLong a r
     → Contains (entry_at a r).lits l → HasLiteral t.entries l
-    → IsVisiting a (with_watch_at w f start (record { clause = r; blocker = l; binary = false })) t f (start + 1)
+    → IsVisiting a (with_watch_at w f start (unmarked r l)) t f (start + 1)
 visiting_set a w t f start r l v within lt is long member made =
-    let x : Watcher = record { clause = r; blocker = l; binary = false } in
+    let x : Watcher = unmarked r l in
     let g = v.ready in
     let now = list_set w f (Rattle.std.proofs.Common.set (list_of w f) start x) g.attached.size within in record {
       ready = record {
@@ -284,7 +288,8 @@ visiting_exchanged a w t f start r k x v within long second o clause sound =
     (λ e. omega (arith, e)) in
     let right : literal_of b r 1 ≡ l = literal_first a r 1 k here one o.within in
     let listed : HasWatchFrom (list_of u l) r 0 =
-    subst (λ (xs : List Watcher). HasWatchFrom xs r 0) (sym (list_set w l (list_of w l ++ x ∷ []) g.attached.size (clean.within k o.within)))
+    subst (λ (xs : List Watcher). HasWatchFrom xs r 0) (sym (list_set w l (list_of w l ++ x ∷ []) g.attached.size
+    (clean.within k o.within)))
     (subst (λ (z : ℕ). HasWatchFrom (list_of w l ++ x ∷ []) z 0) clause (has_pushed (list_of w l) x)) in
     let away : (m : ℕ) → m < 2 → literal_of b r m ≢ f = λ m two is. two_cases m ⊥ two
     (λ at. distinct_literals w.vars a r 0 1 clean (omega arith) one (λ s. omega (arith, s))
@@ -520,10 +525,10 @@ last_first a w t f start r l v lt is second rest first not_true =
 
 pub settled_true : (a : Entries) (w v : WatchLists) (t : TrailState) (f : Literal) (start r : ℕ) (l : Literal)
     → IsVisiting a w t f start → IsWithin w.vars f → start < length (list_of w f) → (watch_at w f start).clause ≡ r
-    → l ≡ literal_of a r 0 → HasLiteral t.entries l → v ≡ with_watch_at w f start (record { clause = r; blocker = l; binary = false })
+    → l ≡ literal_of a r 0 → HasLiteral t.entries l → v ≡ with_watch_at w f start (unmarked r l)
     → (length (list_of v f) ≡ length (list_of w f)) × IsVisiting a v t f (start + 1)
 settled_true a w v t f start r l h within lt is first made new =
-    let x : Watcher = record { clause = r; blocker = l; binary = false } in
+    let x : Watcher = unmarked r l in
     let long = long_of a w t f start r h lt is in
     let member = subst (λ (k : Literal). Contains (entry_at a r).lits k) (sym first) (literal_member a r 0 (omega (arith, long.long))) in
     let u = with_watch_at w f start x in
@@ -542,7 +547,7 @@ pub record IsMoved (a b : Entries) (w v : WatchLists) (t : TrailState) (f : Lite
   pub second : literal_of a r 1 ≡ f
   pub other : IsOther a t.entries r k
   pub arena : b ≡ with_swap a r 1 k
-  pub lists : v ≡ without_watch (with_watch w (literal_of a r k) (record { clause = r; blocker = literal_of a r 0; binary = false })) f start
+  pub lists : v ≡ without_watch (with_watch w (literal_of a r k) (unmarked r (literal_of a r 0))) f start
 
 pub moved_arena : (a b : Entries) (w v : WatchLists) (t : TrailState) (f : Literal) (start r k : ℕ)
     → IsMoved a b w v t f start r k → IsAdvanced a t b t
@@ -555,7 +560,7 @@ pub moved_watch : (a b : Entries) (w v : WatchLists) (t : TrailState) (f : Liter
     → IsMoved a b w v t f start r k → (length (list_of v f) + 1 ≡ length (list_of w f)) × IsVisiting b v t f start
 moved_watch a b w v t f start r k m =
     let long = long_of a w t f start r m.visiting m.place m.watch in
-    let x : Watcher = record { clause = r; blocker = literal_of a r 0; binary = false } in
+    let x : Watcher = unmarked r (literal_of a r 0) in
     let done = visiting_moved a w t f start r k x m.visiting m.within m.place m.watch long m.second m.other refl
     (record { long = long; blocker = literal_member a r 0 (omega (arith, long.long)); pair = λ two. absurd (false≢true two) }) in
     let u = without_watch (with_watch w (literal_of a r k) x) f start in

@@ -1,11 +1,11 @@
-use Rattle.std.proofs.Common.{false, refl, ap, ◌∙◌}
+use Rattle.std.proofs.Common.{refl, ap, ◌∙◌}
 use Rattle.std.proofs.lemmas.Bool.{iff_false}
 use Rattle.clause_arena.specs.Entries.{literal_of}
 use Rattle.cnf_core.specs.Literals.{Literal}
 use Rattle.watch_lists.specs.Watchers.{Watcher}
 use Rattle.watch_lists.specs.Lists.{WatchLists, with_watch, with_watch_at, without_watch}
 use Rattle.watch_lists.specs.Propagating.{IsAdvanced, FateSays}
-use Rattle.watch_lists.proofs.Visited.{IsMoved, settled_true, last_first, forced, moved_arena, moved_watch}
+use Rattle.watch_lists.proofs.Visited.{unmarked, IsMoved, settled_true, last_first, forced, moved_arena, moved_watch}
 use Rattle.watch_lists.proofs.watches.Watches.settle.Goals as goal
 
 pub returns-then-is_true-clause-fate : goal.returns-then-is_true-clause-fate
@@ -30,7 +30,7 @@ moved c = record {
       ∙ ap (λ (l : Literal). with_watch c.args.self.now l c.new-in-Some.result) c.lit.ensures
       ∙ ap (with_watch c.args.self.now (literal_of c.args.arena.now c.args.r c.in-Some.k))
       (c.new-in-Some.ensures
-      ∙ ap (λ (l : Literal). let x : Watcher = record { clause = c.args.r; blocker = l; binary = false } in x) c.lit-first.ensures));
+      ∙ ap (unmarked c.args.r) c.lit-first.ensures));
 }
 
 pub returns-in-Ok-clause-advanced : goal.returns-in-Ok-clause-advanced
