@@ -1,10 +1,11 @@
 //! Two watched literals a clause, and the propagation over them.
 //!
-//! Each live clause of two or more literals is in the lists of its first two. Contracts see [`Watches`] as
-//! these lists (`specs/Lists`); `specs/Watching` has the rule that ties arena, watches and trail, and
-//! `specs/Propagating` what a propagation does. A clause of just two literals is never looked at: its watches
-//! say all of it. Lemmas by which callers keep the rule across their own
-//! steps stand in `proofs/Kept`.
+//! Each live clause of two or more literals is in the lists of its first two. A clause of just two is never
+//! looked at by a propagation, since its watches say all of it.
+//!
+//! Contracts see [`Watches`] as the lists (`specs/Lists`); `specs/Watching` has the rule that ties arena,
+//! watches and trail, and `specs/Propagating` what a propagation does. Lemmas by which callers keep the rule
+//! across their own steps stand in `proofs/Kept`.
 #![tactic(auto)]
 
 pub mod laws;

@@ -7,11 +7,11 @@ use std::marker::Model;
 /// How many places a watch can name: 2^31.
 pub const PLACES: u32 = 1 << 31;
 
-/// A clause that watches a literal, with another of its literals, the blocker: where that one is true, there
-/// is no need to look at the clause. The watch knows whether its clause has just two literals: then there is
-/// none at all, since the clause has only the watched literal and the blocker.
+/// A clause that watches a literal, with another of its literals, the blocker (Chu, Harwood and Stuckey,
+/// 2009): where the blocker is true, there is no need to look at the clause. A watch also says whether the
+/// clause has just these two literals, and then there is never a need.
 ///
-/// A watch has 8 bytes, of which the lists are made that propagation goes through.
+/// It has 8 bytes, since propagation spends its time on lists of watches and on clauses.
 #[derive(Clone, Copy, Debug)]
 pub struct Watch {
     /// The clause's place, and 2^31 more where the clause has just two literals.

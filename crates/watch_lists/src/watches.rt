@@ -103,7 +103,8 @@ impl Watches {
     }
 
     /// Attaches a live clause of two or more literals: puts it into the lists of its first two. Without
-    /// memory for it the lists stay as they were; a clause at a place from 2^31 on is refused as that.
+    /// memory for it the lists stay as they were. A place from 2^31 on, which no watch can name, is refused
+    /// as want of memory.
     pub fn attach(&mut self, arena: &Arena, r: ClauseRef) -> Result<(), NoMemory>
         requires long { IsLong arena.now r }
         requires clean { IsClean self.old.vars (entry_at arena.now r).lits }
@@ -128,8 +129,8 @@ impl Watches {
         Ok(())
     }
 
-    /// Attaches just the live clauses of two or more literals, whatever was attached before. Without
-    /// memory for it nothing is attached.
+    /// Attaches just the live clauses of two or more literals, in their order, whatever was attached before.
+    /// Without memory for it nothing is attached.
     pub fn rebuild(&mut self, arena: &Arena) -> Result<(), NoMemory>
         requires { AreClean self.old.vars arena.now }
         ensures ok { OnOk result (self.new ≡ with_clauses (empty_lists self.old.vars) arena.now (length arena.now)) }
@@ -216,9 +217,9 @@ impl Watches {
         Step::Quiet
     }
 
-    /// Looks at one watch of a false literal. A clause of two literals isn't looked at itself. Where another
-    /// one is, the literal comes to its second place; where it is in neither of the first two, the watch is
-    /// out of date.
+    /// Looks at one watch of a false literal, and at its clause where the watch doesn't say enough. Then the
+    /// literal comes to the clause's second place; where it is in neither of the first two, the watch is out
+    /// of date.
     #[inline(always)]
     fn look(&mut self, arena: &mut Arena, trail: &mut Trail, lit: Lit, at: usize) -> Fate
         requires visiting { IsVisiting arena.old self.old trail.old lit at }
@@ -285,7 +286,7 @@ impl Watches {
     }
 }
 
-/// Makes the last literal of a clause true, where all others are false; the clause is false where that one is.
+/// Makes the one literal of a clause true whose others are all false; where it is false too, so is the clause.
 #[inline(always)]
 fn force(trail: &mut Trail, lit: Lit, r: ClauseRef) -> Fate
     requires within { IsWithin trail.old.vars lit }
