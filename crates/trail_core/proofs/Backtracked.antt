@@ -1,82 +1,186 @@
--- Entries are taken away one by one down to a level.
-use Rattle.std.proofs.Common.{◌≡◌, ℕ, ◌+◌, ◌-◌, ◌<◌, ◌≤◌, min, List, length, take, refl, sym, ap, ◌∙◌, ⊎_elim, arith}
+-- The entries of the levels above one are taken away.
+use Rattle.std.proofs.Common.{◌≡◌, ℕ, ℤ, pos, ◌+◌, ◌-◌, ◌<◌, ◌≤◌, Bool, false, min, List, length, get_or, set, take, refl, sym, ap, ◌∙◌, subst, ⊎_elim, arith}
 use Rattle.std.proofs.lemmas.List.{get_or-take, length-take-le, take-take, take_all}
 use Rattle.std.proofs.lemmas.Bool.{cases_lt}
+use Rattle.cnf_core.specs.Literals.{Literal, code_of, IsWithin}
+use Rattle.trail_core.proofs.Lookups.{code_within}
 use Rattle.trail_core.specs.declared.entry.Assigned.{Assigned}
-use Rattle.trail_core.specs.Trails.{no_entry, assigned_at, IsLeveled, TrailState, without_last, IsBacktracked}
+use Rattle.trail_core.specs.Trails.{no_entry, assigned_at, IsLeveled, TrailState, IsBacktracked}
+use Rattle.trail_core.specs.Tables.{AreTables, AreStarts, IsHeld, state_of}
+use Rattle.trail_core.proofs.Pushed.{level_at_most}
+use Rattle.trail_core.proofs.Popped.{EndsAt, tables_less}
 
--- the trail on its way back
-pub record IsOnTheWay (target : ℕ) (old now : TrailState) : Type 0 where
-  pub fits : length now.entries ≤ length old.entries
-  pub front : now.entries ≡ take (length now.entries) old.entries
-  pub removed : (k : ℕ) → length now.entries ≤ k → k < length old.entries → target < (assigned_at old.entries k).level
-  pub gone : min now.gone (length now.entries) ≡ min old.gone (length now.entries)
-  pub level : target ≤ now.level
-  pub vars : now.vars ≡ old.vars
+-- the first entries of a trail, at least so many, with tables that fit them
+pub record IsCutting (n : ℕ) (es : List Assigned) (start : ℕ) (fs : List Assigned) (ps : List ℕ) (ts : List Bool) (ss : List ℤ)
+    (free : ℕ) : Type 0 where
+  pub fits : length fs ≤ length es
+  pub front : fs ≡ take (length fs) es
+  pub low : start ≤ length fs
+  pub tables : AreTables n fs ps ts ss free
 
-pub way_begins : (target : ℕ) (t : TrailState) → target ≤ t.level → IsOnTheWay target t t
-way_begins target t le = record {
+pub cutting_begins : (n : ℕ) (es : List Assigned) (start : ℕ) (ps : List ℕ) (ts : List Bool) (ss : List ℤ) (free : ℕ)
+    → AreTables n es ps ts ss free → start ≤ length es → IsCutting n es start es ps ts ss free
+cutting_begins n es start ps ts ss free h low = record {
+  fits = omega arith;
+  front = sym (take_all (length es) es (omega arith));
+  low = low;
+  tables = h;
+}
+
+-- one entry less
+pub cutting_goes_on : (n : ℕ) (es : List Assigned) (start : ℕ) (fs : List Assigned) (ps : List ℕ) (ts : List Bool) (ss : List ℤ)
+    (free : ℕ) (l : Literal) (m : ℕ) → IsCutting n es start fs ps ts ss free → EndsAt fs l m → start ≤ m
+    → IsCutting n es start (take m fs) (set ps l.var 0) (set ts (code_of l) false) (set ss (l.var - 1) (pos 0)) (min free l.var)
+cutting_goes_on n es start fs ps ts ss free l m h ends low =
+    let size : length (take m fs) ≡ m = length-take-le m fs (omega (arith, ends.last)) in
+    let fewer : m ≤ length fs = omega (arith, ends.last) in
+    record {
+      fits = omega (arith, size, h.fits);
+      front = ap (take m) h.front ∙ take-take m (length fs) es fewer ∙ ap (λ k. take k es) (sym size);
+      low = omega (arith, size);
+      tables = tables_less n fs ps ts ss free l m h.tables ends;
+    }
+
+-- the entry that a level starts with, and those before it
+pub record IsStart (es : List Assigned) (starts : List ℕ) (level start : ℕ) : Type 0 where
+  pub open_level : level < length starts
+  pub is : start ≡ get_or starts level 0
+
+leveled_cut : (es : List Assigned) (starts : List ℕ) (level start : ℕ) → IsLeveled es (length starts) → AreStarts es starts
+    → IsStart es starts level start → IsLeveled (take start es) level
+leveled_cut es starts level start h s at =
+    let es' = take start es in
+    let lt = at.open_level in
+    let here : start < length es = omega (arith, at.is, s.within level lt) in
+    let size : length es' ≡ start = length-take-le start es (omega arith) in
+    let first : (assigned_at es start).level ≡ level + 1 = ap (λ k. (assigned_at es k).level) at.is ∙ s.level level lt in
+    let old : (k : ℕ) → k < start → (assigned_at es' k).level ≡ (assigned_at es k).level =
+    λ k before. ap (λ e. e.level) (get_or-take start es k no_entry before) in
+    record {
+      first = λ some. omega (arith, old 0 (omega arith), h.first (omega arith));
+      steps = λ k before. omega (arith, old k (omega arith), old (k + 1) (omega arith), h.steps k (omega arith));
+      rises = λ j k le before. omega (arith, old j (omega arith), old k (omega arith), h.rises j k le (omega arith));
+      top = λ k last.
+          let before : k < start = omega arith in
+          let next : (assigned_at es (k + 1)).level ≡ level + 1 =
+          ap (λ m. (assigned_at es m).level) (let e : k + 1 ≡ start = omega arith in e) ∙ first in
+          omega (arith, old k before, next, h.steps k (omega arith), s.below level k lt (omega (arith, at.is)));
+      empty = λ none.
+          let zeroth : (assigned_at es 0).level ≡ level + 1 =
+          ap (λ m. (assigned_at es m).level) (let e : 0 ≡ start = omega arith in e) ∙ first in
+          omega (arith, zeroth, h.first (omega arith));
+    }
+
+starts_cut : (es : List Assigned) (starts : List ℕ) (level start : ℕ) → IsLeveled es (length starts) → AreStarts es starts
+    → IsStart es starts level start → AreStarts (take start es) (take level starts)
+starts_cut es starts level start h s at =
+    let es' = take start es in
+    let starts' = take level starts in
+    let lt = at.open_level in
+    let here : start < length es = omega (arith, at.is, s.within level lt) in
+    let size : length es' ≡ start = length-take-le start es (omega arith) in
+    let count : length starts' ≡ level = length-take-le level starts (omega arith) in
+    let first : (assigned_at es start).level ≡ level + 1 = ap (λ k. (assigned_at es k).level) at.is ∙ s.level level lt in
+    let old : (j : ℕ) → j < start → (assigned_at es' j).level ≡ (assigned_at es j).level =
+    λ j before. ap (λ e. e.level) (get_or-take start es j no_entry before) in
+    let same : (k : ℕ) → k < level → get_or starts' k 0 ≡ get_or starts k 0 = λ k before. get_or-take level starts k 0 before in
+    let lower : (k : ℕ) → k < level → get_or starts k 0 < start = λ k before. ⊎_elim
+    (λ (yes : get_or starts k 0 < start). yes)
+    (λ (no : start ≤ get_or starts k 0).
+    absurd (omega (arith, first, s.level k (omega arith), h.rises start (get_or starts k 0) no (s.within k (omega arith)))))
+    (cases_lt (get_or starts k 0) start) in
+    record {
+      within = λ k before. omega (arith, same k (omega arith), lower k (omega arith));
+      level = λ k before.
+          let inside : k < level = omega arith in
+          ap (λ m. (assigned_at es' m).level) (same k inside) ∙ old (get_or starts k 0) (lower k inside) ∙ s.level k (omega arith);
+      below = λ k j before under.
+          let inside : k < level = omega arith in
+          let low : j < get_or starts k 0 = omega (arith, same k inside) in
+          omega (arith, old j (omega (arith, lower k inside)), s.below k j (omega arith) low);
+    }
+
+-- nothing to take away
+pub backtracked_same : (target : ℕ) (t : TrailState) → IsLeveled t.entries t.level → t.gone ≤ length t.entries → t.level ≡ target
+    → IsBacktracked target t t
+backtracked_same target t h gone is = record {
   fits = omega arith;
   front = sym (take_all (length t.entries) t.entries (omega arith));
+  kept = λ k lt. omega (arith, level_at_most t.entries t.level k h lt);
   removed = λ k past lt. absurd (omega arith);
-  gone = refl;
-  level = le;
+  gone = omega arith;
+  level = is;
   vars = refl;
 }
 
-at_now : (target : ℕ) (old now : TrailState) (k : ℕ) → IsOnTheWay target old now → k < length now.entries
-    → assigned_at now.entries k ≡ assigned_at old.entries k
-at_now target old now k way lt =
-    ap (λ es. assigned_at es k) way.front ∙ get_or-take (length now.entries) old.entries k no_entry lt
+-- all entries from the start of a level on are taken away
+pub record IsCut (n : ℕ) (es : List Assigned) (starts : List ℕ) (gone level start : ℕ) (fs : List Assigned) : Type 0 where
+  pub entries : fs ≡ take start es
+  pub leveled : IsLeveled fs (length (take level starts))
+  pub started : AreStarts fs (take level starts)
+  pub within : min gone start ≤ length fs
+  pub backtracked : IsBacktracked level (state_of es starts gone n) (state_of fs (take level starts) (min gone start) n)
 
-pub entries_left : (target level : ℕ) (es : List Assigned) → IsLeveled es level → target < level → 0 < length es
-entries_left target level es h lt =
-    ⊎_elim
-    (λ (some : 0 < length es). some)
-    (λ (none : length es ≤ 0). absurd (omega (arith, h.empty (omega arith))))
-    (cases_lt 0 (length es))
-
-pub way_goes_on : (target : ℕ) (old now next : TrailState) → IsOnTheWay target old now → IsLeveled now.entries now.level
-    → target < now.level → next ≡ without_last now → now.level ≤ next.level + 1 → IsOnTheWay target old next
-way_goes_on target old now next way h lt is falls =
-    let n = length now.entries in
-    let some : 0 < n = entries_left target now.level now.entries h lt in
-    let es' = take (n - 1) now.entries in
-    let size : length es' ≡ n - 1 = length-take-le (n - 1) now.entries (omega arith) in
-    let entries : next.entries ≡ es' = ap (λ t. t.entries) is in
-    let count : length next.entries ≡ n - 1 = ap length entries ∙ size in
-    let fewer : n - 1 ≤ n = omega arith in
+cut_is : (n : ℕ) (es : List Assigned) (starts : List ℕ) (gone level start : ℕ) (fs : List Assigned)
+    → IsLeveled es (length starts) → AreStarts es starts → gone ≤ length es → IsStart es starts level start
+    → length fs ≤ length es → fs ≡ take (length fs) es → start ≤ length fs → length fs ≤ start
+    → IsCut n es starts gone level start fs
+cut_is n es starts gone level start fs h s within at fits front low end =
+    let lt = at.open_level in
+    let size : length fs ≡ start = omega arith in
+    let entries : fs ≡ take start es = front ∙ ap (λ k. take k es) size in
+    let count : length (take level starts) ≡ level = length-take-le level starts (omega arith) in
+    let first : (assigned_at es start).level ≡ level + 1 = ap (λ k. (assigned_at es k).level) at.is ∙ s.level level lt in
     record {
-      fits = omega (arith, count, way.fits);
-      front = entries ∙ ap (take (n - 1)) way.front ∙ take-take (n - 1) n old.entries fewer
-          ∙ ap (λ m. take m old.entries) (sym count);
-      removed = λ k past within. ⊎_elim
-          (λ (last : k < n).
-          let at : (assigned_at now.entries k).level ≡ (assigned_at old.entries k).level =
-          ap (λ e. e.level) (at_now target old now k way last) in
-          omega (arith, at, h.top k (omega (arith, count))))
-          (λ (before : n ≤ k). way.removed k before within)
-          (cases_lt k n);
-      gone =
-          let now_gone : next.gone ≡ min now.gone (length es') = ap (λ t. t.gone) is in
-          omega (arith, now_gone, size, count, way.gone);
-      level = omega arith;
-      vars = ap (λ t. t.vars) is ∙ way.vars;
+      entries = entries;
+      leveled = subst (IsLeveled fs) (sym count) (subst (λ gs. IsLeveled gs level) (sym entries) (leveled_cut es starts level start h s at));
+      started = subst (λ gs. AreStarts gs (take level starts)) (sym entries) (starts_cut es starts level start h s at);
+      within = omega (arith, size);
+      backtracked = record {
+        fits = fits;
+        front = front;
+        kept = λ k before. s.below level k lt (omega (arith, size, at.is));
+        removed = λ k past inside. omega (arith, first, h.rises start k (omega (arith, size)) inside);
+        gone = omega (arith, size);
+        level = count;
+        vars = refl;
+      };
     }
 
-pub way_ends : (target : ℕ) (old now : TrailState) → IsOnTheWay target old now → IsLeveled now.entries now.level
-    → now.level ≤ target → now.gone ≤ length now.entries → IsBacktracked target old now
-way_ends target old now way h le gone =
-    let n = length now.entries in
-    record {
-      fits = way.fits;
-      front = way.front;
-      kept = λ k lt.
-          let at : (assigned_at now.entries k).level ≡ (assigned_at old.entries k).level =
-          ap (λ e. e.level) (at_now target old now k way lt) in
-          omega (arith, at, h.rises k (n - 1) (omega arith) (omega arith), h.top (n - 1) (omega arith));
-      removed = way.removed;
-      gone = omega (arith, way.gone);
-      level = omega (arith, way.level);
-      vars = way.vars;
+-- the fields fit together again, and say the trail without those entries
+pub held_cut : (n : ℕ) (es : List Assigned) (starts : List ℕ) (gone : ℕ) (ps : List ℕ) (ts : List Bool) (ss : List ℤ)
+    (free cap level_cap level start : ℕ) (n' : ℕ) (fs : List Assigned) (starts' : List ℕ) (gone' : ℕ) (ps' : List ℕ)
+    (ts' : List Bool) (ss' : List ℤ) (free' cap' level_cap' : ℕ) → IsHeld n es starts gone ps ts ss free cap level_cap
+    → IsStart es starts level start → IsCutting n' es start fs ps' ts' ss' free' → length fs ≤ start
+    → n' ≡ n → starts' ≡ take level starts → gone' ≡ min gone start → cap' ≡ cap → level_cap' ≡ level_cap
+    → IsHeld n' fs starts' gone' ps' ts' ss' free' cap' level_cap'
+    × IsBacktracked level (state_of es starts gone n) (state_of fs starts' gone' n')
+held_cut n es starts gone ps ts ss free cap level_cap level start n' fs starts' gone' ps' ts' ss' free' cap' level_cap' h at c end
+    vars cut done room level_room =
+    let k = cut_is n es starts gone level start fs h.leveled h.started h.within at c.fits c.front c.low end in (
+      record {
+        tables = c.tables;
+        leveled = rw cut k.leveled;
+        started = rw cut k.started;
+        within = rw done k.within;
+        room = omega (arith, vars, room, h.room);
+        level_room = omega (arith, vars, level_room, h.level_room);
+        vars_limit = omega (arith, vars, h.vars_limit);
+      },
+      rw (cut, done, vars) k.backtracked,
+    )
+
+-- the tables have places for the last entry's variable
+pub record HasRoom (l : Literal) (ps : List ℕ) (ts : List Bool) (ss : List ℤ) : Type 0 where
+  pub places : l.var < length ps
+  pub truth : code_of l < length ts
+  pub signs : l.var - 1 < length ss
+
+pub room_of : (n : ℕ) (es : List Assigned) (ps : List ℕ) (ts : List Bool) (ss : List ℤ) (free : ℕ) (l : Literal) (m : ℕ)
+    → AreTables n es ps ts ss free → EndsAt es l m → HasRoom l ps ts ss
+room_of n es ps ts ss free l m h ends =
+    let w : IsWithin n l = subst (IsWithin n) ends.lit (h.placed.within m (omega (arith, ends.last))) in record {
+      places = omega (arith, h.placed.places_count, w.high);
+      truth = omega (arith, h.placed.truth_count, code_within n l w);
+      signs = omega (arith, h.values.count, w.low, w.high);
     }

@@ -7,7 +7,7 @@ use Rattle.std.proofs.lemmas.Bool.{cases_lt, cases_eq}
 use Rattle.cnf_core.specs.Literals.{Literal, code_of, IsWithin}
 use Rattle.trail_core.specs.declared.entry.Assigned.{Assigned}
 use Rattle.trail_core.specs.Trails.{no_entry, sign_of, assigned_at, HasLiteral, HasVariable, IsFree, IsLeveled, TrailState, IsTrail, IsFirstFree}
-use Rattle.trail_core.specs.Tables.{blank, IsPlaced, IsHeld, state_of}
+use Rattle.trail_core.specs.Tables.{blank, IsPlaced, AreTables, IsHeld, state_of}
 use Rattle.trail_core.proofs.Literals.{code_le}
 
 pub code_within : (n : ℕ) (l : Literal) → IsWithin n l → code_of l < 2 * n + 2
@@ -59,19 +59,19 @@ few_entries n es ps ts p =
     omega (arith, p.blanks)
 
 -- what holds of every trail
-pub trail_is : (t : TrailState) (ps : List ℕ) (ts : List Bool) (ss : List ℤ) (f c : ℕ)
-    → IsHeld t ps ts ss f c → IsTrail t
-trail_is t ps ts ss f c h = record {
+pub trail_is : (n : ℕ) (es : List Assigned) (starts : List ℕ) (gone : ℕ) (ps : List ℕ) (ts : List Bool) (ss : List ℤ) (f c d : ℕ)
+    → IsHeld n es starts gone ps ts ss f c d → IsTrail (state_of es starts gone n)
+trail_is n es starts gone ps ts ss f c d h = record {
   vars_limit = h.vars_limit;
-  within = h.placed.within;
+  within = h.tables.placed.within;
   distinct = λ j k first second same.
-      let a = h.placed.placed j first in
-      let b = h.placed.placed k second in
+      let a = h.tables.placed.placed j first in
+      let b = h.tables.placed.placed k second in
       let e = ap (λ v. get_or ps v 0) same in
       omega (arith, a, b, e);
   leveled = h.leveled;
-  gone = h.gone;
-  few = few_entries t.vars t.entries ps ts h.placed;
+  gone = h.within;
+  few = few_entries n es ps ts h.tables.placed;
 }
 
 -- the present level is at most the number of entries
@@ -92,6 +92,12 @@ deep es level h =
     (λ (none : length es ≤ 0). omega (arith, h.empty (omega arith)))
     (cases_lt 0 (length es))
 
+-- the present level is at most the number of variables
+pub few_levels : (n : ℕ) (es : List Assigned) (starts : List ℕ) (gone : ℕ) (ps : List ℕ) (ts : List Bool) (ss : List ℤ) (f c d : ℕ)
+    → IsHeld n es starts gone ps ts ss f c d → length starts ≤ n
+few_levels n es starts gone ps ts ss f c d h =
+    omega (arith, deep es (length starts) h.leveled, few_entries n es ps ts h.tables.placed)
+
 -- entries with the same literals and levels, whatever their reasons
 pub record AreAlike (es fs : List Assigned) : Type 0 where
   pub count : length fs ≡ length es
@@ -105,32 +111,43 @@ has_alike es fs l a h = record {
   lit = a.lits h.place ∙ h.lit;
 }
 
-pub held_alike : (n : ℕ) (es fs : List Assigned) (ps : List ℕ) (ts : List Bool) (ss : List ℤ) (gone level free cap : ℕ)
-    → AreAlike es fs → IsHeld (state_of es gone level n) ps ts ss free cap → IsHeld (state_of fs gone level n) ps ts ss free cap
-held_alike n es fs ps ts ss gone level free cap a h =
-    let p = h.placed in
-    let v = h.values in
+pub held_alike : (n : ℕ) (es fs : List Assigned) (starts : List ℕ) (gone : ℕ) (ps : List ℕ) (ts : List Bool) (ss : List ℤ)
+    (free cap level_cap : ℕ) → AreAlike es fs → IsHeld n es starts gone ps ts ss free cap level_cap
+    → IsHeld n fs starts gone ps ts ss free cap level_cap
+held_alike n es fs starts gone ps ts ss free cap level_cap a h =
+    let p = h.tables.placed in
+    let v = h.tables.values in
     let g = h.leveled in
+    let s = h.started in
     let old : (k : ℕ) → k < length fs → k < length es = λ k lt. omega (arith, a.count) in
     record {
-      placed = record {
-        within = λ k lt. subst (IsWithin n) (sym (a.lits k)) (p.within k (old k lt));
-        places_count = p.places_count;
-        truth_count = p.truth_count;
-        placed = λ k lt. ap (λ l. get_or ps l.var 0) (a.lits k) ∙ p.placed k (old k lt);
-        found = λ u some. (
-          omega (arith, a.count, (p.found u some).0),
-          ap (λ l. l.var) (a.lits (get_or ps u 0 - 1)) ∙ (p.found u some).1,
-        );
-        true_at = λ k lt. ap (λ l. get_or ts (code_of l) false) (a.lits k) ∙ p.true_at k (old k lt);
-        only_true = λ l read. has_alike es fs l a (p.only_true l read);
-        blanks = omega (arith, a.count, p.blanks);
+      tables = record {
+        placed = record {
+          within = λ k lt. subst (IsWithin n) (sym (a.lits k)) (p.within k (old k lt));
+          places_count = p.places_count;
+          truth_count = p.truth_count;
+          placed = λ k lt. ap (λ l. get_or ps l.var 0) (a.lits k) ∙ p.placed k (old k lt);
+          found = λ u some. (
+            omega (arith, a.count, (p.found u some).0),
+            ap (λ l. l.var) (a.lits (get_or ps u 0 - 1)) ∙ (p.found u some).1,
+          );
+          true_at = λ k lt. ap (λ l. get_or ts (code_of l) false) (a.lits k) ∙ p.true_at k (old k lt);
+          only_true = λ l read. has_alike es fs l a (p.only_true l read);
+          blanks = omega (arith, a.count, p.blanks);
+        };
+        values = record {
+          count = v.count;
+          valued = λ k lt. ap (λ l. get_or ss (l.var - 1) (pos 0)) (a.lits k) ∙ v.valued k (old k lt) ∙ ap sign_of (sym (a.lits k));
+          free = λ u low high none. v.free u low high
+              (λ k lt is. none k (omega (arith, a.count, lt)) (ap (λ l. l.var) (a.lits k) ∙ is));
+        };
+        cursor = h.tables.cursor;
+        before = h.tables.before;
       };
-      values = record {
-        count = v.count;
-        valued = λ k lt. ap (λ l. get_or ss (l.var - 1) (pos 0)) (a.lits k) ∙ v.valued k (old k lt) ∙ ap sign_of (sym (a.lits k));
-        free = λ u low high none. v.free u low high
-            (λ k lt is. none k (omega (arith, a.count, lt)) (ap (λ l. l.var) (a.lits k) ∙ is));
+      started = record {
+        within = λ k lt. omega (arith, a.count, s.within k lt);
+        level = λ k lt. a.levels (get_or starts k 0) ∙ s.level k lt;
+        below = λ k j lt before. omega (arith, a.levels j, s.below k j lt before);
       };
       leveled = record {
         first = λ some. omega (arith, a.levels 0, g.first (omega (arith, a.count)));
@@ -139,10 +156,9 @@ held_alike n es fs ps ts ss gone level free cap a h =
         top = λ k is. a.levels k ∙ g.top k (is ∙ a.count);
         empty = λ none. g.empty (sym a.count ∙ none);
       };
-      gone = omega (arith, a.count, h.gone);
-      cursor = h.cursor;
-      before = h.before;
+      within = omega (arith, a.count, h.within);
       room = h.room;
+      level_room = h.level_room;
       vars_limit = h.vars_limit;
     }
 
@@ -164,20 +180,19 @@ alike_root es k x y within read lit level =
     }
 
 -- the least variable without a place is the first free one
-pub first_free_is : (t : TrailState) (ps : List ℕ) (ts : List Bool) (ss : List ℤ) (f cap v : ℕ) → IsHeld t ps ts ss f cap
+pub first_free_is : (t : TrailState) (ps : List ℕ) (ts : List Bool) (ss : List ℤ) (f v : ℕ) → AreTables t.vars t.entries ps ts ss f
     → f ≤ v → v ≤ t.vars → get_or ps v 0 ≡ 0 → ((u : ℕ) → f ≤ u → u < v → 0 < get_or ps u 0) → IsFirstFree t v
-first_free_is t ps ts ss f cap v h from within blank passed = record {
+first_free_is t ps ts ss f v h from within blank passed = record {
   within = (omega (arith, h.cursor.0), within);
   free = free_of_blank t.vars t.entries ps ts v h.placed blank;
   below = λ u some lt. has_of_place t.vars t.entries ps ts u h.placed
       (⊎_elim (λ (before : u < f). h.before u some before) (λ (past : f ≤ u). passed u past lt) (cases_lt u f));
 }
 
-pub none_free : (t : TrailState) (ps : List ℕ) (ts : List Bool) (ss : List ℤ) (f cap v : ℕ) → IsHeld t ps ts ss f cap
-    → t.vars < v → ((u : ℕ) → f ≤ u → u < v → 0 < get_or ps u 0)
-    → (u : ℕ) → 0 < u → u ≤ t.vars → HasVariable t.entries u
-none_free t ps ts ss f cap v h past passed u some within =
-    has_of_place t.vars t.entries ps ts u h.placed
+pub none_free : (n : ℕ) (es : List Assigned) (ps : List ℕ) (ts : List Bool) (ss : List ℤ) (f v : ℕ) → AreTables n es ps ts ss f
+    → n < v → ((u : ℕ) → f ≤ u → u < v → 0 < get_or ps u 0) → (u : ℕ) → 0 < u → u ≤ n → HasVariable es u
+none_free n es ps ts ss f v h past passed u some within =
+    has_of_place n es ps ts u h.placed
     (⊎_elim (λ (before : u < f). h.before u some before) (λ (after : f ≤ u). passed u after (omega arith)) (cases_lt u f))
 
 -- the place that was read is that of the variable's entry

@@ -1,12 +1,12 @@
 -- A trail without its last entry still fits its tables.
 use Rattle.std.proofs.Common.{◌≡◌, ◌≢◌, ℕ, ℤ, pos, ◌+◌, ◌-◌, ◌<◌, ◌≤◌, Bool, false, min, List, length, get_or, set, take, sym, ap, ◌∙◌, subst, ⊎_elim, arith}
-use Rattle.std.proofs.lemmas.List.{length-set, get_or-set_same, get_or-set_other, get_or-take, length-take-le, get_or_past}
+use Rattle.std.proofs.lemmas.List.{length-set, get_or-set_same, get_or-set_other, get_or-take, length-take-le, get_or_read}
 use Rattle.std.proofs.lemmas.List.Sums.{sum_by-set}
 use Rattle.std.proofs.lemmas.Bool.{cases_lt, cases_eq, true≢false}
 use Rattle.cnf_core.specs.Literals.{Literal, code_of, IsWithin}
 use Rattle.trail_core.specs.declared.entry.Assigned.{Assigned}
-use Rattle.trail_core.specs.Trails.{no_entry, assigned_at, IsFree, IsLeveled, AreValues, sign_of, last_level}
-use Rattle.trail_core.specs.Tables.{blank, IsPlaced, IsHeld, state_of}
+use Rattle.trail_core.specs.Trails.{no_entry, assigned_at, IsFree, AreValues, sign_of}
+use Rattle.trail_core.specs.Tables.{blank, IsPlaced, AreTables}
 use Rattle.trail_core.proofs.Literals.{same_code}
 use Rattle.trail_core.proofs.Lookups.{code_within}
 use Rattle.trail_core.proofs.Pushed.{blank_of_some}
@@ -15,6 +15,14 @@ use Rattle.trail_core.proofs.Pushed.{blank_of_some}
 pub record EndsAt (es : List Assigned) (l : Literal) (m : ℕ) : Type 0 where
   pub last : m + 1 ≡ length es
   pub lit : (assigned_at es m).lit ≡ l
+
+-- the last entry was read
+pub ends_at : (es : List Assigned) (count : ℕ) (a : Assigned) → count ≡ length es → 0 < count → a ≡ get_or es (count - 1) a
+    → EndsAt es a.lit (count - 1)
+ends_at es count a is some read = record {
+  last = omega arith;
+  lit = sym (ap (λ e. e.lit) (get_or_read es (count - 1) a (omega arith) read no_entry));
+}
 
 at_front : (es : List Assigned) (m k : ℕ) → k < m → assigned_at (take m es) k ≡ assigned_at es k
 at_front es m k lt = get_or-take m es k no_entry lt
@@ -123,58 +131,17 @@ values_less n es ps ts ss l m vs p ends =
           (cases_eq v l.var);
     }
 
-pub leveled_less : (es : List Assigned) (l : Literal) (m level : ℕ) → IsLeveled es level → EndsAt es l m
-    → IsLeveled (take m es) (last_level (take m es))
-leveled_less es l m level h ends =
-    let es' = take m es in
-    let size : length es' ≡ m = length_front es l m ends in
-    let old : (k : ℕ) → k < m → (assigned_at es' k).level ≡ (assigned_at es k).level =
-    λ k lt. ap (λ e. e.level) (at_front es m k lt) in
-    record {
-      first = λ some. omega (arith, old 0 (omega arith), h.first (omega (arith, ends.last)));
-      steps = λ k lt. omega (arith, old k (omega arith), old (k + 1) (omega arith), h.steps k (omega (arith, ends.last)));
-      rises = λ j k le lt. omega (arith, old j (omega arith), old k (omega arith), h.rises j k le (omega (arith, ends.last)));
-      top = λ k is.
-          let at : k ≡ length es' - 1 = omega arith in
-          ap (λ z. (assigned_at es' z).level) at;
-      empty = λ none. ap (λ e. e.level) (get_or_past es' (length es' - 1) no_entry (omega arith));
-    }
-
--- the level falls by at most 1
-pub level_less : (es : List Assigned) (l : Literal) (m level : ℕ) → IsLeveled es level → EndsAt es l m
-    → level ≤ last_level (take m es) + 1
-level_less es l m level h ends =
-    let es' = take m es in
-    let size : length es' ≡ m = length_front es l m ends in
-    let top : (assigned_at es m).level ≡ level = h.top m ends.last in
-    ⊎_elim
-    (λ (some : 0 < m).
-    let at : (assigned_at es' (m - 1)).level ≡ (assigned_at es (m - 1)).level = ap (λ e. e.level) (at_front es m (m - 1) (omega arith)) in
-    let last : last_level es' ≡ (assigned_at es' (m - 1)).level = ap (λ z. (assigned_at es' (z - 1)).level) size in
-    let same : m ≡ m - 1 + 1 = omega arith in
-    let here : (assigned_at es m).level ≡ (assigned_at es (m - 1 + 1)).level = ap (λ z. (assigned_at es z).level) same in
-    omega (arith, at, last, here, h.steps (m - 1) (omega (arith, ends.last))))
-    (λ (none : m ≤ 0).
-    let at : (assigned_at es m).level ≡ (assigned_at es 0).level = ap (λ z. (assigned_at es z).level) (omega arith) in
-    omega (arith, at, h.first (omega (arith, ends.last))))
-    (cases_lt 0 m)
-
-pub held_less : (n : ℕ) (es : List Assigned) (ps : List ℕ) (ts : List Bool) (ss : List ℤ) (gone level free cap : ℕ)
-    (l : Literal) (m : ℕ) → IsHeld (state_of es gone level n) ps ts ss free cap → EndsAt es l m
-    → IsHeld (state_of (take m es) (min gone m) (last_level (take m es)) n) (set ps l.var 0) (set ts (code_of l) false)
-    (set ss (l.var - 1) (pos 0)) (min free l.var) cap
-held_less n es ps ts ss gone level free cap l m h ends =
+-- the tables without the last entry
+pub tables_less : (n : ℕ) (es : List Assigned) (ps : List ℕ) (ts : List Bool) (ss : List ℤ) (free : ℕ) (l : Literal) (m : ℕ)
+    → AreTables n es ps ts ss free → EndsAt es l m
+    → AreTables n (take m es) (set ps l.var 0) (set ts (code_of l) false) (set ss (l.var - 1) (pos 0)) (min free l.var)
+tables_less n es ps ts ss free l m h ends =
     let w : IsWithin n l = subst (IsWithin n) ends.lit (h.placed.within m (omega (arith, ends.last))) in
-    let size : length (take m es) ≡ m = length_front es l m ends in
     record {
       placed = placed_less n es ps ts l m h.placed ends;
       values = values_less n es ps ts ss l m h.values h.placed ends;
-      leveled = leveled_less es l m level h.leveled ends;
-      gone = omega arith;
       cursor = (omega (arith, h.cursor.0, w.low), omega (arith, h.cursor.1));
       before = λ u some lt.
           let ne : u ≢ l.var = λ e. omega arith in
           omega (arith, get_or-set_other ps l.var u 0 0 ne, h.before u some (omega arith));
-      room = h.room;
-      vars_limit = h.vars_limit;
     }

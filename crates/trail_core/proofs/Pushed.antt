@@ -1,5 +1,5 @@
 -- A trail with one entry more still fits its tables.
-use Rattle.std.proofs.Common.{◌≡◌, ◌≢◌, ℕ, zero, suc, ℤ, pos, ◌+◌, ◌-◌, ◌<◌, ◌≤◌, Bool, true, false, List, [], ◌∷◌, ◌++◌, length, get_or, set, refl, sym, ap, ◌∙◌, subst, ⊎_elim, arith}
+use Rattle.std.proofs.Common.{◌≡◌, ◌≢◌, ℕ, zero, suc, ℤ, pos, ◌+◌, ◌-◌, ◌<◌, ◌≤◌, Bool, true, false, nat_lt, if◌then◌else◌, List, [], ◌∷◌, ◌++◌, length, get_or, set, refl, sym, ap, ◌∙◌, subst, ⊎_elim, arith}
 use Rattle.std.specs.List.{sum_by}
 use Rattle.std.proofs.lemmas.List.{length-set, get_or-set_same, get_or-set_other, get_or_append_left, get_or_push, length_push}
 use Rattle.std.proofs.lemmas.List.Sums.{sum_by-set, get_or-le-sum_by}
@@ -7,7 +7,7 @@ use Rattle.std.proofs.lemmas.Bool.{cases_lt, cases_eq}
 use Rattle.cnf_core.specs.Literals.{code_of, IsWithin}
 use Rattle.trail_core.specs.declared.entry.Assigned.{Assigned}
 use Rattle.trail_core.specs.Trails.{no_entry, assigned_at, IsFree, IsLeveled, AreValues, sign_of}
-use Rattle.trail_core.specs.Tables.{blank, IsPlaced, IsHeld, state_of}
+use Rattle.trail_core.specs.Tables.{blank, IsPlaced, AreTables, AreStarts, IsHeld, opened}
 use Rattle.trail_core.proofs.Literals.{same_code}
 use Rattle.trail_core.proofs.Lookups.{code_within, blank_of_free}
 
@@ -166,16 +166,12 @@ leveled_more es a level h low high =
       empty = λ none. absurd (omega arith);
     }
 
-pub held_more : (n : ℕ) (es : List Assigned) (ps : List ℕ) (ts : List Bool) (ss : List ℤ) (gone level free cap : ℕ)
-    (a : Assigned) (m : ℕ) → IsHeld (state_of es gone level n) ps ts ss free cap
-    → IsWithin n a.lit → IsFree es a.lit.var → level ≤ a.level → a.level ≤ level + 1 → m ≡ length es + 1
-    → IsHeld (state_of (es ++ a ∷ []) gone a.level n) (set ps a.lit.var m) (set ts (code_of a.lit) true)
-    (set ss (a.lit.var - 1) (sign_of a.lit)) free cap
-held_more n es ps ts ss gone level free cap a m h w none low high is = record {
+tables_more : (n : ℕ) (es : List Assigned) (ps : List ℕ) (ts : List Bool) (ss : List ℤ) (free : ℕ) (a : Assigned) (m : ℕ)
+    → AreTables n es ps ts ss free → IsWithin n a.lit → IsFree es a.lit.var → m ≡ length es + 1
+    → AreTables n (es ++ a ∷ []) (set ps a.lit.var m) (set ts (code_of a.lit) true) (set ss (a.lit.var - 1) (sign_of a.lit)) free
+tables_more n es ps ts ss free a m h w none is = record {
   placed = placed_more n es ps ts a m h.placed w none is;
   values = values_more n es ss a h.values h.placed.within w none;
-  leveled = leveled_more es a level h.leveled low high;
-  gone = omega (arith, h.gone, length_push es a);
   cursor = h.cursor;
   before = λ u some lt. ⊎_elim
       (λ (at : u ≡ a.lit.var).
@@ -186,15 +182,121 @@ held_more n es ps ts ss gone level free cap a m h w none low high is = record {
       (λ (ne : u ≢ a.lit.var).
       omega (arith, get_or-set_other ps a.lit.var u m 0 ne, h.before u some lt))
       (cases_eq u a.lit.var);
-  room = h.room;
-  vars_limit = h.vars_limit;
 }
 
+-- the level of every entry is at most the present one
+pub level_at_most : (es : List Assigned) (level k : ℕ) → IsLeveled es level → k < length es → (assigned_at es k).level ≤ level
+level_at_most es level k h lt = omega (arith, h.rises k (length es - 1) (omega arith) (omega arith), h.top (length es - 1) (omega arith))
+
+starts_more : (es : List Assigned) (starts : List ℕ) (a : Assigned) → AreStarts es starts → AreStarts (es ++ a ∷ []) starts
+starts_more es starts a h = record {
+  within = λ k lt. omega (arith, length_push es a, h.within k lt);
+  level = λ k lt. ap (λ e. e.level) (at_old es a (get_or starts k 0) (h.within k lt)) ∙ h.level k lt;
+  below = λ k j lt before.
+      let old : (assigned_at (es ++ a ∷ []) j).level ≡ (assigned_at es j).level =
+      ap (λ e. e.level) (at_old es a j (omega (arith, before, h.within k lt))) in
+      omega (arith, old, h.below k j lt before);
+}
+
+-- the entry is the first of a new level
+starts_opened : (es : List Assigned) (starts : List ℕ) (a : Assigned) → AreStarts es starts → IsLeveled es (length starts)
+    → a.level ≡ length starts + 1 → AreStarts (es ++ a ∷ []) (starts ++ length es ∷ [])
+starts_opened es starts a h leveled is =
+    let es' = es ++ a ∷ [] in
+    let starts' = starts ++ length es ∷ [] in
+    let more = starts_more es starts a h in
+    let old : (k : ℕ) → k < length starts → get_or starts' k 0 ≡ get_or starts k 0 =
+    λ k lt. get_or_append_left starts (length es ∷ []) 0 k lt in
+    let new : (k : ℕ) → k ≡ length starts → get_or starts' k 0 ≡ length es =
+    λ k at. get_or_push starts (length es) 0 k (sym at) in
+    let size : length starts' ≡ length starts + 1 = length_push starts (length es) in
+    let entries : length es' ≡ length es + 1 = length_push es a in
+    record {
+      within = λ k lt. ⊎_elim
+          (λ (before : k < length starts). omega (arith, old k before, more.within k before))
+          (λ (past : length starts ≤ k). omega (arith, new k (omega arith)))
+          (cases_lt k (length starts));
+      level = λ k lt. ⊎_elim
+          (λ (before : k < length starts). ap (λ m. (assigned_at es' m).level) (old k before) ∙ more.level k before)
+          (λ (past : length starts ≤ k).
+          let at : k ≡ length starts = omega arith in
+          ap (λ m. (assigned_at es' m).level) (new k at) ∙ ap (λ e. e.level) (at_new es a (length es) refl) ∙ is
+          ∙ ap (λ m. m + 1) (sym at))
+          (cases_lt k (length starts));
+      below = λ k j lt under. ⊎_elim
+          (λ (before : k < length starts). more.below k j before (omega (arith, old k before, under)))
+          (λ (past : length starts ≤ k).
+          let at : k ≡ length starts = omega arith in
+          let inside : j < length es = omega (arith, new k at, under) in
+          let same : (assigned_at es' j).level ≡ (assigned_at es j).level = ap (λ e. e.level) (at_old es a j inside) in
+          omega (arith, same, level_at_most es (length starts) j leveled inside))
+          (cases_lt k (length starts));
+    }
+
+-- the starts after an entry of this level, which is the present or the next one
+opened_cases : (starts : List ℕ) (level start : ℕ) (A : List ℕ → Type 0) → length starts ≤ level → level ≤ length starts + 1
+    → (level ≡ length starts → A starts) → (level ≡ length starts + 1 → A (starts ++ start ∷ [])) → A (opened starts level start)
+opened_cases starts level start A low high same next =
+    ⊎_elim
+    (λ (lt : length starts < level).
+    let e : nat_lt (length starts) level ≡ true = grind arith in
+    subst (λ (b : Bool). A (if b then starts ++ start ∷ [] else starts)) (sym e) (next (omega arith)))
+    (λ (past : level ≤ length starts).
+    let e : nat_lt (length starts) level ≡ false = grind arith in
+    subst (λ (b : Bool). A (if b then starts ++ start ∷ [] else starts)) (sym e) (same (omega arith)))
+    (cases_lt (length starts) level)
+
+-- the trail has one entry more
+pub record IsPut (es : List Assigned) (starts : List ℕ) (a : Assigned) : Type 0 where
+  pub leveled : IsLeveled (es ++ a ∷ []) (length (opened starts a.level (length es)))
+  pub started : AreStarts (es ++ a ∷ []) (opened starts a.level (length es))
+
+put_is : (es : List Assigned) (starts : List ℕ) (a : Assigned) → IsLeveled es (length starts) → AreStarts es starts
+    → length starts ≤ a.level → a.level ≤ length starts + 1 → IsPut es starts a
+put_is es starts a h s low high =
+    let leveled = leveled_more es a (length starts) h low high in
+    let both : IsLeveled (es ++ a ∷ []) (length (opened starts a.level (length es)))
+    × AreStarts (es ++ a ∷ []) (opened starts a.level (length es)) =
+    opened_cases starts a.level (length es) (λ (ss : List ℕ). IsLeveled (es ++ a ∷ []) (length ss) × AreStarts (es ++ a ∷ []) ss) low high
+    (λ same. (subst (IsLeveled (es ++ a ∷ [])) same leveled, starts_more es starts a s))
+    (λ next. (
+      subst (IsLeveled (es ++ a ∷ [])) (next ∙ sym (length_push starts (length es))) leveled,
+      starts_opened es starts a s h next,
+    )) in
+    record { leveled = both.0; started = both.1 }
+
+held_more : (n : ℕ) (es : List Assigned) (starts : List ℕ) (gone : ℕ) (ps : List ℕ) (ts : List Bool) (ss : List ℤ)
+    (free cap level_cap : ℕ) (a : Assigned) (m : ℕ) → IsHeld n es starts gone ps ts ss free cap level_cap
+    → IsWithin n a.lit → IsFree es a.lit.var → length starts ≤ a.level → a.level ≤ length starts + 1 → m ≡ length es + 1
+    → IsHeld n (es ++ a ∷ []) (opened starts a.level (length es)) gone (set ps a.lit.var m) (set ts (code_of a.lit) true)
+    (set ss (a.lit.var - 1) (sign_of a.lit)) free cap level_cap
+held_more n es starts gone ps ts ss free cap level_cap a m h w none low high is =
+    let put = put_is es starts a h.leveled h.started low high in record {
+      tables = tables_more n es ps ts ss free a m h.tables w none is;
+      leveled = put.leveled;
+      started = put.started;
+      within = omega (arith, h.within, length_push es a);
+      room = h.room;
+      level_room = h.level_room;
+      vars_limit = h.vars_limit;
+    }
+
 -- the same, from what the calls say of the fields
-pub held_put : (n : ℕ) (es : List Assigned) (ps : List ℕ) (ts : List Bool) (ss : List ℤ) (gone level free cap : ℕ)
-    (a : Assigned) (m v c : ℕ) (x : ℤ) (es' : List Assigned) (cap' : ℕ) → IsHeld (state_of es gone level n) ps ts ss free cap
-    → IsWithin n a.lit → IsFree es a.lit.var → level ≤ a.level → a.level ≤ level + 1 → m ≡ length es + 1
-    → es' ≡ es ++ a ∷ [] → v ≡ a.lit.var → c ≡ code_of a.lit → x ≡ sign_of a.lit → cap' ≡ cap
-    → IsHeld (state_of es' gone a.level n) (set ps v m) (set ts c true) (set ss (v - 1) x) free cap'
-held_put n es ps ts ss gone level free cap a m v c x es' cap' h w none low high count entries var code sign room =
-    rw (entries, var, code, sign, room) (held_more n es ps ts ss gone level free cap a m h w none low high count)
+pub held_put : (n : ℕ) (es : List Assigned) (starts : List ℕ) (gone : ℕ) (ps : List ℕ) (ts : List Bool) (ss : List ℤ)
+    (free cap level_cap : ℕ) (a : Assigned) (m v c : ℕ) (x : ℤ) (es' : List Assigned) (starts' : List ℕ) (start cap' level_cap' : ℕ)
+    → IsHeld n es starts gone ps ts ss free cap level_cap
+    → IsWithin n a.lit → IsFree es a.lit.var → length starts ≤ a.level → a.level ≤ length starts + 1 → m ≡ length es + 1
+    → es' ≡ es ++ a ∷ [] → starts' ≡ opened starts a.level start → start ≡ length es
+    → v ≡ a.lit.var → c ≡ code_of a.lit → x ≡ sign_of a.lit → cap' ≡ cap → level_cap' ≡ level_cap
+    → IsHeld n es' starts' gone (set ps v m) (set ts c true) (set ss (v - 1) x) free cap' level_cap'
+held_put n es starts gone ps ts ss free cap level_cap a m v c x es' starts' start cap' level_cap' h w none low high count entries
+    opens from var code sign room level_room =
+    rw (entries, opens, from, var, code, sign, room, level_room)
+    (held_more n es starts gone ps ts ss free cap level_cap a m h w none low high count)
+
+-- the present level after it
+pub level_put : (starts : List ℕ) (level start : ℕ) → length starts ≤ level → level ≤ length starts + 1
+    → length (opened starts level start) ≡ level
+level_put starts level start low high =
+    opened_cases starts level start (λ (ss : List ℕ). length ss ≡ level) low high (λ same. sym same)
+    (λ next. length_push starts start ∙ sym next)

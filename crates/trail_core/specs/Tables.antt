@@ -1,5 +1,5 @@
 -- What a trail keeps beside its entries, so that a look-up is one read.
-use Rattle.std.specs.Prelude.{◌≡◌, ℕ, zero, suc, ◌+◌, ◌-◌, ◌*◌, ◌<◌, ◌≤◌, ◌^◌, ℤ, Bool, true, false, List, length, slice_index, slice_index_or, sum_by}
+use Rattle.std.specs.Prelude.{◌≡◌, ℕ, zero, suc, ◌+◌, ◌-◌, ◌*◌, ◌<◌, ◌≤◌, ◌^◌, ℤ, Bool, true, false, nat_lt, if◌then◌else◌, List, [], ◌∷◌, ◌++◌, length, slice_index, slice_index_or, sum_by}
 use Rattle.cnf_core.specs.Literals.{Literal, code_of, IsWithin}
 use Rattle.trail_core.specs.declared.entry.Assigned.{Assigned}
 use Rattle.trail_core.specs.Trails.{assigned_at, HasLiteral, IsLeveled, AreValues, TrailState}
@@ -22,17 +22,34 @@ pub record IsPlaced (vars : ℕ) (es : List Assigned) (places : List ℕ) (truth
   pub only_true : (l : Literal) → slice_index_or truth (code_of l) false ≡ true → HasLiteral es l
   pub blanks : length es + sum_by blank places ≡ vars + 1
 
--- the fields of a trail fit together; the cursor has no variable without a value before it
-pub record IsHeld (t : TrailState) (places : List ℕ) (truth : List Bool) (signs : List ℤ) (free capacity : ℕ) : Type 0 where
-  pub placed : IsPlaced t.vars t.entries places truth
-  pub values : AreValues t.vars t.entries signs
-  pub leveled : IsLeveled t.entries t.level
-  pub gone : t.gone ≤ length t.entries
-  pub cursor : (0 < free) × (free ≤ t.vars + 1)
+-- the tables fit the entries; the cursor has no variable without a value before it
+pub record AreTables (vars : ℕ) (es : List Assigned) (places : List ℕ) (truth : List Bool) (signs : List ℤ) (free : ℕ) : Type 0 where
+  pub placed : IsPlaced vars es places truth
+  pub values : AreValues vars es signs
+  pub cursor : (0 < free) × (free ≤ vars + 1)
   pub before : (u : ℕ) → 0 < u → u < free → 0 < slice_index places u
-  pub room : t.vars ≤ capacity
-  pub vars_limit : t.vars ≤ 2 ^ 20
+
+-- each level from 1 on starts with an entry of it, and all entries before that one are of lower levels
+pub record AreStarts (es : List Assigned) (starts : List ℕ) : Type 0 where
+  pub within : (k : ℕ) → k < length starts → slice_index starts k < length es
+  pub level : (k : ℕ) → k < length starts → (assigned_at es (slice_index starts k)).level ≡ k + 1
+  pub below : (k j : ℕ) → k < length starts → j < slice_index starts k → (assigned_at es j).level ≤ k
+
+-- the starts, with that of a level that isn't open yet
+abbrev pub opened : List ℕ → ℕ → ℕ → List ℕ
+opened starts level start = if nat_lt (length starts) level then starts ++ start ∷ [] else starts
+
+-- the fields of a trail fit together
+pub record IsHeld (vars : ℕ) (es : List Assigned) (starts : List ℕ) (gone : ℕ) (places : List ℕ) (truth : List Bool)
+    (signs : List ℤ) (free capacity level_capacity : ℕ) : Type 0 where
+  pub tables : AreTables vars es places truth signs free
+  pub leveled : IsLeveled es (length starts)
+  pub started : AreStarts es starts
+  pub within : gone ≤ length es
+  pub room : vars ≤ capacity
+  pub level_room : vars ≤ level_capacity
+  pub vars_limit : vars ≤ 2 ^ 20
 
 -- the state that the fields say
-abbrev pub state_of : List Assigned → ℕ → ℕ → ℕ → TrailState
-state_of es gone level vars = record { entries = es; gone = gone; level = level; vars = vars }
+abbrev pub state_of : List Assigned → List ℕ → ℕ → ℕ → TrailState
+state_of es starts gone vars = record { entries = es; gone = gone; level = length starts; vars = vars }

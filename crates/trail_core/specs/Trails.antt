@@ -77,16 +77,6 @@ pub record IsBacktracked (target : ℕ) (old new : TrailState) : Type 0 where
   pub level : new.level ≡ target
   pub vars : new.vars ≡ old.vars
 
--- the level of the last entry, 0 where there is none
-abbrev pub last_level : List Assigned → ℕ
-last_level es = (assigned_at es (length es - 1)).level
-
--- the trail without its last entry, at the level of the one before it
-abbrev pub without_last : TrailState → TrailState
-without_last t =
-    let es = take (length t.entries - 1) t.entries in
-    record t { entries = es; gone = min t.gone (length es); level = last_level es }
-
 -- the sign of a value: 1 for true and -1 for false
 abbrev pub sign_of : Literal → ℤ
 sign_of l = if l.positive then pos 1 else negsuc 0

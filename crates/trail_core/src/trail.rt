@@ -1,7 +1,8 @@
-ghost use Rattle.std.specs.Prelude.{◌≡◌, ◌↔◌, ◌+◌, ◌<◌, ◌≤◌, ◌^◌, ℕ, length, slice_index, if◌then◌else◌, IfOk, IfSome, IfNone, MatchOption, IsTrue};
-ghost use Rattle.cnf_core.specs.Literals.{IsWithin, negated};
-ghost use Rattle.trail_core.specs.Trails.{assigned_at, HasLiteral, HasVariable, IsFree, IsTrail, empty_trail, with_entry, with_root, IsBacktracked, last_level, without_last, AreValues, sign_of, IsFirstFree};
-ghost use Rattle.std.specs.Vec.{vec_len};
+ghost use Rattle.std.specs.Prelude.{◌≡◌, ◌↔◌, ◌+◌, ◌<◌, ◌≤◌, ◌-◌, ◌^◌, ℕ, pos, false, length, slice_index, slice_set, if◌then◌else◌, IfOk, IfSome, IfNone, MatchOption, IsTrue};
+ghost use Rattle.cnf_core.specs.Literals.{IsWithin, negated, code_of};
+ghost use Rattle.trail_core.specs.Trails.{assigned_at, HasLiteral, HasVariable, IsFree, IsTrail, empty_trail, with_entry, with_root, IsBacktracked, AreValues, sign_of, IsFirstFree};
+ghost use Rattle.trail_core.specs.Tables.{opened};
+ghost use Rattle.std.specs.Vec.{vec_len, vec_capacity};
 ghost use Rattle.trail_core.specs.declared.entry.Reason.TheVariants.{Decision};
 
 use crate::{Assigned, Reason};
@@ -12,10 +13,12 @@ use std::marker::Model;
 /// The literals that are true, in the order of their coming, with their levels and reasons.
 ///
 /// The value of a literal is one read of a table by its packed form; a variable's entry is found by a
-/// table of places.
+/// table of places, and the first entry of a level by a table of starts.
 #[derive(Debug, Drop)]
 pub struct Trail {
     entries: Vec<Assigned>,
+    /// How many entries there were when each level from 1 on was opened.
+    starts: Vec<u32>,
     /// Where each variable's entry stands, counted from 1; 0 where it has none.
     places: Vec<u32>,
     /// Which packed literals are true.
@@ -23,7 +26,6 @@ pub struct Trail {
     /// 1, -1 or 0 per variable.
     signs: Vec<i8>,
     gone: u32,
-    level: u32,
     /// No variable before it is without a value.
     free: u32,
     vars: u32,
@@ -36,11 +38,11 @@ impl Model for Trail {
 
     ghost Value = { TrailState };
 
-    ghost view = { λ t. state_of t.entries.items t.gone t.level t.vars };
+    ghost view = { λ t. state_of t.entries.items t.starts.items t.gone t.vars };
 
     ghost invariant = { λ t.
-        IsHeld (state_of t.entries.items t.gone t.level t.vars) t.places.items t.truth.items
-        t.signs.items t.free (vec_capacity t.entries) };
+        IsHeld t.vars t.entries.items t.starts.items t.gone t.places.items t.truth.items
+        t.signs.items t.free (vec_capacity t.entries) (vec_capacity t.starts) };
 }
 
 /// The sign of a literal: 1, and -1 for a negation.
@@ -51,14 +53,31 @@ fn sign(lit: Lit) -> i8
     if lit.positive() { 1 } else { -1 }
 }
 
-/// The level of the last entry, 0 where there is none.
-fn last_level(entries: &Vec<Assigned>) -> u32
-    ensures { result ≡ last_level entries.now.items }
+/// Opens a level before so many entries, unless it is open already.
+#[inline(always)]
+fn open(starts: &mut Vec<u32>, level: u32, count: u32)
+    requires { vec_len starts.old < level → vec_len starts.old < vec_capacity starts.old }
+    ensures items { starts.new.items ≡ opened starts.old.items level count }
+    ensures room { vec_capacity starts.new ≡ vec_capacity starts.old }
 {
-    match entries.len() {
-        0 => 0,
-        count => entries[count - 1].level,
+    if starts.len() < level as usize {
+        starts.push_reserved(count);
     }
+}
+
+/// Takes a literal's value out of the tables.
+#[inline(always)]
+fn erase(places: &mut Vec<u32>, truth: &mut Vec<bool>, signs: &mut Vec<i8>, lit: Lit)
+    requires places { lit.var < vec_len places.old }
+    requires truth { code_of lit < vec_len truth.old }
+    requires signs { lit.var - 1 < vec_len signs.old }
+    ensures places { places.new.items ≡ slice_set places.old.items lit.var 0 }
+    ensures truth { truth.new.items ≡ slice_set truth.old.items (code_of lit) false }
+    ensures signs { signs.new.items ≡ slice_set signs.old.items (lit.var - 1) (pos 0) }
+{
+    places[lit.var() as usize] = 0;
+    truth[lit.code() as usize] = false;
+    signs[lit.var() as usize - 1] = 0;
 }
 
 impl Trail {
@@ -70,11 +89,11 @@ impl Trail {
         let count = vars as usize;
         Ok(Trail {
             entries: Vec::with_capacity(alloc, count)?,
+            starts: Vec::with_capacity(alloc, count)?,
             places: vec![in alloc; 0; count + 1]?,
             truth: vec![in alloc; false; 2 * count + 2]?,
             signs: vec![in alloc; 0; count]?,
             gone: 0,
-            level: 0,
             free: 1,
             vars,
         })
@@ -87,7 +106,7 @@ impl Trail {
         ensures { self.new ≡ with_entry self.old lit (self.old.level + 1) Decision }
     {
         self.free = next_free(&self.places, self.free);
-        let level = self.level + 1;
+        let level = self.level() + 1;
         self.put(lit, level, Reason::Decision);
     }
 
@@ -98,11 +117,11 @@ impl Trail {
         requires free { IsFree self.old.entries lit.var }
         ensures { self.new ≡ with_entry self.old lit self.old.level reason }
     {
-        let level = self.level;
+        let level = self.level();
         self.put(lit, level, reason);
     }
 
-    /// Makes a literal true at the present level or the next one.
+    /// Makes a literal true at the present level or the next one, which it opens.
     #[inline(always)]
     fn put(&mut self, lit: Lit, level: u32, reason: Reason)
         requires within { IsWithin self.old.vars lit }
@@ -111,11 +130,11 @@ impl Trail {
         ensures { self.new ≡ with_entry self.old lit level reason }
     {
         let var = lit.var() as usize;
+        open(&mut self.starts, level, self.entries.len() as u32);
         self.entries.push_reserved(Assigned { lit, level, reason });
         self.places[var] = self.entries.len() as u32;
         self.truth[lit.code() as usize] = true;
         self.signs[var - 1] = sign(lit);
-        self.level = level;
     }
 
     /// Sets the reason of a variable of level 0 to a unit clause with this id.
@@ -136,26 +155,19 @@ impl Trail {
         requires { level ≤ self.old.level }
         ensures { IsBacktracked level self.old self.new }
     {
-        while self.level > level {
-            self.pop();
+        if level as usize >= self.starts.len() {
+            return;
         }
-    }
-
-    /// Takes away the last entry.
-    fn pop(&mut self)
-        requires { 0 < length self.old.entries }
-        ensures back { self.new ≡ without_last self.old }
-        ensures level { self.old.level ≤ self.new.level + 1 }
-    {
-        let count = self.entries.len() - 1;
-        let lit = self.entries[count].lit;
-        self.entries.truncate(count);
-        self.places[lit.var() as usize] = 0;
-        self.truth[lit.code() as usize] = false;
-        self.signs[lit.var() as usize - 1] = 0;
-        self.gone = self.gone.min(count as u32);
-        self.free = self.free.min(lit.var());
-        self.level = last_level(&self.entries);
+        let start = self.starts[level as usize];
+        while self.entries.len() > start as usize {
+            let count = self.entries.len() - 1;
+            let lit = self.entries[count].lit;
+            self.entries.truncate(count);
+            erase(&mut self.places, &mut self.truth, &mut self.signs, lit);
+            self.free = self.free.min(lit.var());
+        }
+        self.starts.truncate(level as usize);
+        self.gone = self.gone.min(start);
     }
 
     /// How many of the first entries were propagated.
@@ -234,11 +246,12 @@ impl Trail {
     }
 
     /// The present level: how many decisions are on the trail.
+    #[inline(always)]
     pub fn level(&self) -> u32
         ensures value { result ≡ self.now.level }
         ensures trail { IsTrail self.now }
     {
-        self.level
+        self.starts.len() as u32
     }
 
     /// How many entries there are.

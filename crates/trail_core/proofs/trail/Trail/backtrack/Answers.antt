@@ -1,27 +1,107 @@
-use Rattle.std.proofs.Common.{◌<◌, ◌≤◌, length, subst}
-use Rattle.trail_core.specs.Trails.{IsLeveled}
-use Rattle.trail_core.proofs.Backtracked.{way_begins, way_goes_on, way_ends, entries_left}
+use Rattle.std.proofs.Common.{◌-◌, ◌<◌, ◌≤◌, length, vec_capacity, min, take, refl, sym, ap, ◌∙◌, subst, arith}
+use Rattle.std.proofs.lemmas.List.{get_or_read}
+use Rattle.trail_core.specs.Trails.{TrailState, IsBacktracked}
+use Rattle.trail_core.specs.Tables.{IsHeld, state_of}
+use Rattle.trail_core.proofs.Popped.{ends_at}
+use Rattle.trail_core.proofs.Backtracked.{IsStart, HasRoom, cutting_begins, cutting_goes_on, room_of, held_cut, backtracked_same}
 use Rattle.trail_core.proofs.trail.Trail.backtrack.Goals as goal
 
-pub pop-requires : goal.pop-requires
-pop-requires c =
-    let leveled : IsLeveled c.loop-self.self.entries c.loop-self.self.level =
-    subst (λ t. IsLeveled t.entries t.level) c.self.view_is c.self.invariant.leveled in
-    entries_left c.args.level _ _ leveled (subst (λ t. c.args.level < t.level) c.self.view_is c.loop-self-test.true)
+pub returns-then-level-len : goal.returns-then-level-len
+returns-then-level-len c =
+    let t = state_of c.self.inside.entries.items c.self.inside.starts.items c.self.inside.gone c.self.inside.vars in
+    let high : c.args.level ≤ t.level = subst (λ (u : TrailState). c.args.level ≤ u.level) (sym c.self.view_is) c.requires in
+    subst (λ (u : TrailState). IsBacktracked c.args.level u u) c.self.view_is
+    (backtracked_same c.args.level t c.self.invariant.leveled c.self.invariant.within (omega (arith, c.if-level-len.true, c.len.ensures)))
+
+-- the level's start was read
+started : (c : goal.After-row_known-1)
+    → IsStart c.self.inside.entries.items c.self.inside.starts.items c.args.level c.index-start.result.now
+started c =
+    let inside : c.args.level < length c.self.inside.starts.items = omega (arith, c.if-level-len.false, c.len.ensures) in
+    record {
+      open_level = inside;
+      is = get_or_read c.self.inside.starts.items c.args.level c.index-start.result.now inside c.index-start.ensures 0;
+    }
 
 pub loop-self-init : goal.loop-self-init
-loop-self-init c = way_begins _ _ c.requires
+loop-self-init c =
+    let at = started c in record {
+      cutting = cutting_begins _ _ _ _ _ _ _ c.self.invariant.tables
+          (omega (arith, at.is, c.self.invariant.started.within c.args.level at.open_level));
+      starts = refl;
+      gone = refl;
+      vars = refl;
+      room = refl;
+    }
+
+room : (c : goal.After-erase-arg-in-loop-self-2-1)
+    → HasRoom c.index.result.now.lit c.loop-self.self-inside.places.items c.loop-self.self-inside.truth.items
+    c.loop-self.self-inside.signs.items
+room c =
+    room_of _ _ _ _ _ _ _ _ c.loop-self.invariant.cutting.tables
+    (ends_at c.loop-self.self-inside.entries.items c.len-count.result c.index.result.now (omega (arith, c.len-count.ensures))
+    (omega (arith, c.len-count.ensures, c.loop-self-test.true, c.len-in-loop-self.ensures)) c.index.ensures)
+
+pub erase-requires-clause-places : goal.erase-requires-clause-places
+erase-requires-clause-places c = omega (arith, (room c).places)
+
+pub erase-requires-clause-truth : goal.erase-requires-clause-truth
+erase-requires-clause-truth c = omega (arith, (room c).truth)
+
+pub erase-requires-clause-signs : goal.erase-requires-clause-signs
+erase-requires-clause-signs c = omega (arith, (room c).signs)
 
 pub loop-self-preserved : goal.loop-self-preserved
 loop-self-preserved c =
-    let leveled : IsLeveled c.loop-self.self.entries c.loop-self.self.level =
-    subst (λ t. IsLeveled t.entries t.level) c.self.view_is c.self.invariant.leveled in
-    way_goes_on _ _ _ _ c.loop-self.invariant leveled
-    (subst (λ t. c.args.level < t.level) c.self.view_is c.loop-self-test.true) c.pop.ensures.back c.pop.ensures.level
+    let h = c.loop-self.invariant in
+    let ends = ends_at c.loop-self.self-inside.entries.items c.len-count.result c.index.result.now (omega (arith, c.len-count.ensures))
+    (omega (arith, c.len-count.ensures, c.loop-self-test.true, c.len-in-loop-self.ensures)) c.index.ensures in
+    let next = cutting_goes_on c.loop-self.self-inside.vars c.self.inside.entries.items c.index-start.result.now
+    c.loop-self.self-inside.entries.items c.loop-self.self-inside.places.items c.loop-self.self-inside.truth.items
+    c.loop-self.self-inside.signs.items c.loop-self.self-inside.free c.index.result.now.lit (c.len-count.result - 1) h.cutting ends
+    (omega (arith, c.loop-self-test.true, c.len-in-loop-self.ensures, c.len-count.ensures)) in record {
+      cutting = rw (
+        c.truncate.ensures.items,
+        c.erase.ensures.places,
+        c.erase.ensures.truth,
+        c.erase.ensures.signs,
+        c.min-self-inside.ensures,
+        c.var.ensures.value,
+      )
+          next;
+      starts = h.starts;
+      gone = h.gone;
+      vars = h.vars;
+      room = c.truncate.ensures.capacity ∙ h.room;
+    }
+
+-- the fields behind the loop
+cut : (c : goal.After-self-2-1)
+    → IsHeld c.loop-self.self-inside.vars c.loop-self.self-inside.entries.items c.truncate-2.new.self.items
+    c.min-self-inside-2.result c.loop-self.self-inside.places.items c.loop-self.self-inside.truth.items
+    c.loop-self.self-inside.signs.items c.loop-self.self-inside.free (vec_capacity c.loop-self.self-inside.entries)
+    (vec_capacity c.truncate-2.new.self)
+    × IsBacktracked c.args.level
+    (state_of c.self.inside.entries.items c.self.inside.starts.items c.self.inside.gone c.self.inside.vars)
+    (state_of c.loop-self.self-inside.entries.items c.truncate-2.new.self.items c.min-self-inside-2.result c.loop-self.self-inside.vars)
+cut c =
+    let h = c.loop-self.invariant in
+    let inside : c.args.level < length c.self.inside.starts.items = omega (arith, c.if-level-len.false, c.len.ensures) in
+    let at : IsStart c.self.inside.entries.items c.self.inside.starts.items c.args.level c.index-start.result.now = record {
+      open_level = inside;
+      is = get_or_read c.self.inside.starts.items c.args.level c.index-start.result.now inside c.index-start.ensures 0;
+    } in
+    held_cut _ _ _ _ _ _ _ _ _ _ c.args.level c.index-start.result.now _ _ _ _ _ _ _ _ _ _ c.self.invariant at h.cutting
+    (omega (arith, c.loop-self-test.false, c.len-in-loop-self.ensures)) h.vars
+    (c.truncate-2.ensures.items ∙ ap (λ v. take c.args.level v.items) h.starts)
+    (c.min-self-inside-2.ensures ∙ ap (λ g. min g c.index-start.result.now) h.gone) h.room
+    (c.truncate-2.ensures.capacity ∙ ap (λ v. vec_capacity v) h.starts)
+
+pub invariant_of-self : goal.invariant_of-self
+invariant_of-self c = (cut c).0
 
 pub returns : goal.returns
 returns c =
-    let leveled : IsLeveled c.loop-self.self.entries c.loop-self.self.level =
-    subst (λ t. IsLeveled t.entries t.level) c.self.view_is c.self.invariant.leveled in
-    way_ends _ _ _ c.loop-self.invariant leveled (subst (λ t. t.level ≤ c.args.level) c.self.view_is c.loop-self-test.false)
-    (subst (λ t. t.gone ≤ length t.entries) c.self.view_is c.self.invariant.gone)
+    subst (λ (t : TrailState). IsBacktracked c.args.level t (state_of c.loop-self.self-inside.entries.items
+    c.truncate-2.new.self.items c.min-self-inside-2.result c.loop-self.self-inside.vars))
+    c.self.view_is (cut c).1

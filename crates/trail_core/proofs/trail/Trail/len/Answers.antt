@@ -4,4 +4,4 @@ use Rattle.trail_core.proofs.Lookups.{trail_is}
 use Rattle.trail_core.proofs.trail.Trail.len.Goals as goal
 
 pub returns-clause-trail : goal.returns-clause-trail
-returns-clause-trail c = subst IsTrail c.self.view_is (trail_is _ _ _ _ _ _ c.self.invariant)
+returns-clause-trail c = subst IsTrail c.self.view_is (trail_is _ _ _ _ _ _ _ _ _ _ c.self.invariant)
