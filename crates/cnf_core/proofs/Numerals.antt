@@ -1,5 +1,5 @@
 -- The number that printed digits write.
-use Rattle.std.proofs.Common.{◌≡◌, ℕ, ◌<◌, ◌^◌, ◌*◌, ◌+◌, ◌-◌, true, List, [], ◌∷◌, length, Some, refl, ap, arith, rules}
+use Rattle.std.proofs.Common.{◌≡◌, ℕ, ◌<◌, ◌^◌, ◌*◌, ◌+◌, ◌-◌, true, List, [], ◌∷◌, length, Some, ap, arith, rules}
 use Rattle.std.specs.Prelude.{decimal, fold}
 use Rattle.std.specs.List.{list_all}
 use Rattle.std.specs.Char.{is_ascii_digit}

@@ -1,5 +1,5 @@
 -- A small formula worked by the definitions: 1; -1 or 2; 2 or 3, over three variables.
-use Rattle.std.specs.Prelude.{◌≡◌, true, false, [], ◌∷◌}
+use Rattle.std.specs.Prelude.{◌≡◌, true, false, None, [], ◌∷◌}
 use Rattle.cnf_core.specs.Literals.{Literal}
 use Rattle.cnf_core.specs.Formulas.{Cnf, assignments, models, backbone}
 
@@ -17,7 +17,7 @@ abbrev pub three : Literal
 three = record { var = 3; positive = true }
 
 abbrev pub chain : Cnf
-chain = record { vars = 3; clauses = (one ∷ []) ∷ (not_one ∷ two ∷ []) ∷ (two ∷ three ∷ []) ∷ [] }
+chain = record { vars = 3; clauses = (one ∷ []) ∷ (not_one ∷ two ∷ []) ∷ (two ∷ three ∷ []) ∷ []; shown = None }
 
 -- 1 is given, so 2 follows, and 3 is free
 pub record ChainIsWorked : Type 0 where

@@ -1,20 +1,49 @@
 -- Formulas, their models, what they entail, and their backbones.
-use Rattle.std.specs.Prelude.{◌≡◌, ℕ, zero, suc, ◌+◌, ◌^◌, ◌<◌, ◌≤◌, Bool, true, false, not, IsTrue, if◌then◌else◌, List, [], ◌∷◌, ◌++◌, length, All, filter}
+use Rattle.std.specs.Prelude.{◌≡◌, ℕ, zero, suc, ◌+◌, ◌^◌, ◌<◌, ◌≤◌, ◌&&◌, nat_lt, nat_le, Bool, true, false, not, IsTrue, if◌then◌else◌, Option, Some, None, List, [], ◌∷◌, ◌++◌, length, replicate, All, filter}
 use Rattle.std.specs.List.{list_all, flat_map, sum_by}
-use Rattle.cnf_core.specs.Literals.{Literal, Literals, Assignment, is_true, clause_true, all_true, value_of, AreWithin}
+use Rattle.cnf_core.specs.Literals.{Literal, Literals, Assignment, is_true, clause_true, all_true, value_of, with_value, AreWithin}
 
--- a formula in conjunctive normal form over the variables 1 to vars
+-- a formula in conjunctive normal form over the variables 1 to vars, and the variables that are asked
+-- for: all of them, or those whose mark is true
 pub record Cnf : Type 0 where
   pub vars : ℕ
   pub clauses : List Literals
+  pub shown : Option Assignment
 
--- the formula without clauses
+-- the formula without clauses, which shows all its variables
 abbrev pub empty_formula : ℕ → Cnf
-empty_formula n = record { vars = n; clauses = [] }
+empty_formula n = record { vars = n; clauses = []; shown = None }
 
 -- the formula with one clause more
 abbrev pub with_clause : Cnf → Literals → Cnf
 with_clause F c = record F { clauses = F.clauses ++ c ∷ [] }
+
+-- whether marks, where there are any, have the variable
+abbrev pub is_marked : Option Assignment → ℕ → Bool
+is_marked None v = true
+is_marked (Some marks) v = value_of marks v
+
+-- whether the variable is one of the formula's and shown
+abbrev pub is_shown : Cnf → ℕ → Bool
+is_shown F v = nat_lt 0 v && (nat_le v F.vars && is_marked F.shown v)
+
+-- the marks, or none of n variables where there were no marks
+abbrev pub marks_of : ℕ → Option Assignment → Assignment
+marks_of n None = replicate n false
+marks_of n (Some marks) = marks
+
+-- the formula that shows just what it was told to show
+abbrev pub restricted : Cnf → Cnf
+restricted F = record F { shown = Some (marks_of F.vars F.shown) }
+
+-- the formula that shows one variable more
+abbrev pub showing : Cnf → ℕ → Cnf
+showing F v = record F { shown = Some (with_value (marks_of F.vars F.shown) v true) }
+
+-- the formula was told what to show
+pub record IsRestricted (F : Cnf) : Type 0 where
+  pub marks : Assignment
+  pub is : F.shown ≡ Some marks
 
 -- the assignment with one value more, false and then true
 abbrev pub both_ways : Assignment → List Assignment
@@ -63,6 +92,10 @@ backbone_upto F (suc n) = backbone_upto F n ++ backbone_at F (suc n)
 unfoldable pub backbone : Cnf → Literals
 backbone F = backbone_upto F F.vars
 
+-- the members of the backbone whose variables are shown
+unfoldable pub shown_backbone : Cnf → Literals
+shown_backbone F = filter (λ l. is_shown F l.var) (backbone F)
+
 -- the literal of the variable v that the assignment makes true
 abbrev pub true_literal : Assignment → ℕ → Literal
 true_literal a v = record { var = v; positive = value_of a v }
@@ -87,9 +120,11 @@ pub record HasRoom (F : Cnf) (c : Literals) : Type 0 where
   pub clauses_left : length F.clauses < 2 ^ 21
   pub literals_left : literal_count F.clauses + length c ≤ 2 ^ 23
 
--- the formula is within the limits, and its clauses have its variables alone
+-- the formula is within the limits, its clauses have its variables alone, and each variable has a mark
+-- where there are marks
 pub record IsFormula (F : Cnf) : Type 0 where
   pub vars_limit : F.vars ≤ 2 ^ 20
   pub clauses_limit : length F.clauses ≤ 2 ^ 21
   pub literals_limit : literal_count F.clauses ≤ 2 ^ 23
   pub within : All (AreWithin F.vars) F.clauses
+  pub marks : length (marks_of F.vars F.shown) ≡ F.vars

@@ -3,4 +3,4 @@ pub mod Spelling
 pub mod Formulas
 pub mod Laws
 pub mod Example
-pub mod Counted
+pub mod Steps

@@ -1,7 +1,7 @@
-ghost use Rattle.std.specs.Prelude.{◌≡◌, ◌^◌, ◌≤◌, ◌↔◌, IsTrue, OnOk, OnErr};
-ghost use Rattle.cnf_core.specs.Formulas.{empty_formula, with_clause, HasRoom, IsFormula};
+ghost use Rattle.std.specs.Prelude.{◌≡◌, ◌^◌, ◌<◌, ◌≤◌, ◌↔◌, IsTrue, OnOk, OnErr};
+ghost use Rattle.cnf_core.specs.Formulas.{empty_formula, with_clause, is_shown, restricted, showing, IsRestricted, HasRoom, IsFormula};
 
-use crate::{Clause, Lit, NoMemory};
+use crate::{Clause, Lit, NoMemory, Values};
 use std::alloc::Global;
 use std::marker::Model;
 
@@ -13,26 +13,32 @@ pub const MAX_LITERALS: usize = 8_388_608;
 
 /// A formula in conjunctive normal form over the variables 1 to [`Formula::vars`], always within the
 /// limits: at most 2^20 variables, 2^21 clauses and 2^23 literals, and no other variables.
+///
+/// It also says which of its variables are shown, that is asked for: all of them, until
+/// [`Formula::restrict`] is called. Its models and what it entails don't depend on that.
 #[derive(Debug, Drop)]
 pub struct Formula {
     vars: u32,
     literals: usize,
     clauses: Vec<Clause>,
+    /// Which variables are shown; none where all are.
+    shown: Option<Values>,
 }
 
 impl Model for Formula {
     ghost use Rattle.cnf_core.specs.Formulas.{Cnf, literal_count, IsFormula};
-    ghost use Rattle.cnf_core.specs.Counted.{IsCounted};
+    ghost use Rattle.cnf_core.specs.Steps.Counted.{IsCounted};
 
     ghost Value = { Cnf };
 
-    ghost view = { λ f. record { vars = f.vars; clauses = f.clauses.items } };
+    ghost view = { λ f. record { vars = f.vars; clauses = f.clauses.items; shown = f.shown } };
 
-    ghost invariant = { λ f. IsCounted f.literals (record { vars = f.vars; clauses = f.clauses.items }) };
+    ghost invariant = { λ f. IsCounted f.literals (record { vars = f.vars; clauses = f.clauses.items; shown = f.shown }) };
 }
 
 impl Formula {
-    /// The formula over so many variables, at most 2^20, without clauses. It takes no memory.
+    /// The formula over so many variables, at most 2^20, without clauses, which shows all of them. It
+    /// takes no memory.
     pub fn new(alloc: Global, vars: u32) -> Formula
         requires { vars ≤ 2 ^ 20 }
         ensures { result ≡ empty_formula vars }
@@ -41,6 +47,7 @@ impl Formula {
             vars,
             literals: 0,
             clauses: Vec::new(alloc),
+            shown: None,
         }
     }
 
@@ -80,5 +87,40 @@ impl Formula {
         ensures limits { IsFormula self.now }
     {
         &self.clauses
+    }
+
+    /// Shows no variable from here on, but those that [`Formula::show`] names. Where it was called before,
+    /// nothing changes. Without memory for the marks the formula stays as it was.
+    pub fn restrict(&mut self) -> Result<(), NoMemory>
+        ensures ok { OnOk result (self.new ≡ restricted self.old) }
+        ensures err { OnErr result (self.new ≡ self.old) }
+    {
+        if self.shown.is_none() {
+            self.shown = Some(Values::new(*self.clauses.allocator(), self.vars)?);
+        }
+        Ok(())
+    }
+
+    /// Shows one of the variables 1 to [`Formula::vars`], after [`Formula::restrict`].
+    pub fn show(&mut self, var: u32)
+        requires restricted { IsRestricted self.old }
+        requires within { (0 < var) × (var ≤ self.old.vars) }
+        ensures { self.new ≡ showing self.old var }
+    {
+        if let Some(marks) = &mut self.shown {
+            marks.set(var, true);
+        }
+    }
+
+    /// Whether the variable is one of the formula's and is shown.
+    pub fn is_shown(&self, var: u32) -> bool
+        ensures { result ≡ is_shown self.now var }
+    {
+        0 < var
+            && var <= self.vars
+            && match &self.shown {
+                None => true,
+                Some(marks) => marks.get(var),
+            }
     }
 }
