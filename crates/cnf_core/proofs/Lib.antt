@@ -5,3 +5,4 @@ pub mod Models
 pub mod Backbones
 pub mod Flips
 pub mod Numerals
+mod Gathering

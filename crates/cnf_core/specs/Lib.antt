@@ -1,6 +1,7 @@
 pub mod Literals
 pub mod Spelling
 pub mod Formulas
+pub mod Numbers
 pub mod Laws
 pub mod Example
 pub mod Steps

@@ -12,6 +12,7 @@ mod formula;
 pub mod laws;
 mod literal;
 mod memory;
+mod numbers;
 #[cfg(test)]
 mod tests;
 mod values;
@@ -20,4 +21,5 @@ pub use clause::Clause;
 pub use formula::{Formula, MAX_CLAUSES, MAX_LITERALS};
 pub use literal::{Lit, MAX_VARS};
 pub use memory::NoMemory;
+pub use numbers::NumbersError;
 pub use values::Values;
