@@ -6,3 +6,4 @@ pub mod Backbones
 pub mod Flips
 pub mod Numerals
 mod Gathering
+pub mod Shown

@@ -1,5 +1,5 @@
 -- Formulas, their models, what they entail, and their backbones.
-use Rattle.std.specs.Prelude.{◌≡◌, ℕ, zero, suc, ◌+◌, ◌^◌, ◌<◌, ◌≤◌, ◌&&◌, nat_lt, nat_le, Bool, true, false, not, IsTrue, if◌then◌else◌, Option, Some, None, List, [], ◌∷◌, ◌++◌, length, replicate, All, filter}
+use Rattle.std.specs.Prelude.{◌≡◌, ℕ, zero, suc, ◌+◌, ◌^◌, ◌<◌, ◌≤◌, ◌&&◌, nat_lt, nat_le, Bool, true, false, not, IsTrue, if◌then◌else◌, Option, Some, None, IsSome, List, [], ◌∷◌, ◌++◌, length, replicate, All, filter}
 use Rattle.std.specs.List.{list_all, flat_map, sum_by}
 use Rattle.cnf_core.specs.Literals.{Literal, Literals, Assignment, is_true, clause_true, all_true, value_of, with_value, AreWithin}
 
@@ -41,9 +41,8 @@ abbrev pub showing : Cnf → ℕ → Cnf
 showing F v = record F { shown = Some (with_value (marks_of F.vars F.shown) v true) }
 
 -- the formula was told what to show
-pub record IsRestricted (F : Cnf) : Type 0 where
-  pub marks : Assignment
-  pub is : F.shown ≡ Some marks
+abbrev pub IsRestricted : Cnf → Type 0
+IsRestricted F = IsSome F.shown
 
 -- the assignment with one value more, false and then true
 abbrev pub both_ways : Assignment → List Assignment

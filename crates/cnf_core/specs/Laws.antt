@@ -1,7 +1,7 @@
 -- The statements of the laws: what holds of every formula by the definitions alone.
-use Rattle.std.specs.Prelude.{◌≡◌, ◌↔◌, ℕ, ◌<◌, ◌≤◌, not, IsTrue, [], ◌∷◌, length, All, AllPairs, Contains, filter}
+use Rattle.std.specs.Prelude.{◌≡◌, ◌↔◌, ℕ, ◌<◌, ◌≤◌, ◌&&◌, not, IsTrue, [], ◌∷◌, length, All, AllPairs, Contains, filter}
 use Rattle.cnf_core.specs.Literals.{Literal, Literals, Assignment, negated, value_of, with_value, is_true, IsWithin, AreWithin, RisesByVar}
-use Rattle.cnf_core.specs.Formulas.{Cnf, with_clause, assignments, models, IsModel, entails, Entails, backbone, true_literal, true_literals}
+use Rattle.cnf_core.specs.Formulas.{Cnf, with_clause, assignments, models, IsModel, entails, Entails, backbone, is_shown, shown_backbone, true_literal, true_literals}
 
 -- each list of n truth values is there, no other list is, and none stands twice
 pub record HasEachOnce (n : ℕ) : Type 0 where
@@ -31,6 +31,28 @@ pub record IsBackboneOf (F : Cnf) (fixed : Literals) : Type 0 where
 
 abbrev pub BackboneByMembers : Type 0
 BackboneByMembers = (F : Cnf) (a : Assignment) → IsModel F a → IsBackboneOf F (backbone F)
+
+-- its members determine it
+abbrev pub BackboneDetermined : Type 0
+BackboneDetermined = (F : Cnf) (a : Assignment) (fixed : Literals) → IsModel F a → IsBackboneOf F fixed → fixed ≡ backbone F
+
+-- the shown members are what is shown and entailed of one model's own literals
+abbrev pub ShownBackboneInOneModel : Type 0
+ShownBackboneInOneModel = (F : Cnf) (a : Assignment) → IsModel F a
+    → shown_backbone F ≡ filter (λ l. is_shown F l.var && entails F l) (true_literals a F.vars)
+
+-- the shown members, by themselves: in order, and just the literals that are shown and entailed
+pub record IsShownBackboneOf (F : Cnf) (fixed : Literals) : Type 0 where
+  pub rises : RisesByVar fixed
+  pub just : (l : Literal) → Contains fixed l ↔ (IsTrue (is_shown F l.var) × Entails F l)
+
+abbrev pub ShownBackboneByMembers : Type 0
+ShownBackboneByMembers = (F : Cnf) (a : Assignment) → IsModel F a → IsShownBackboneOf F (shown_backbone F)
+
+-- they determine the list
+abbrev pub ShownBackboneDetermined : Type 0
+ShownBackboneDetermined = (F : Cnf) (a : Assignment) (fixed : Literals) → IsModel F a → IsShownBackboneOf F fixed
+    → fixed ≡ shown_backbone F
 
 -- the clause has the literal, no other true literal, and not the literal's negation:
 -- it fails where the literal's variable is flipped

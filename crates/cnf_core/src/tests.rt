@@ -1,4 +1,5 @@
-use crate::{Clause, Formula, Lit, MAX_VARS, NoMemory, Values};
+use crate::{Clause, Formula, Lit, MAX_VARS, NoMemory, NumbersError, Values};
+use std::alloc::Global;
 use std::test::Fail;
 
 /// What threads may share, as each type of this crate.
@@ -54,15 +55,54 @@ fn a_formula_takes_what_it_has_room_for(rt: HostRuntime) -> Result<(), Fail> {
     })?;
     assert!(rt; !formula.room(&[Lit::new(1, true), Lit::new(3, true)]));
     assert_eq!(rt; shared(&formula).vars(), 2);
-    let mut numbers = Vec::new(rt.alloc());
+    let numbers = numbers_of(rt.alloc(), &formula)?;
+    assert_eq!(rt; numbers.as_slice(), [-2, 1, 0, 0].as_slice());
+    Ok(())
+}
+
+#[test]
+fn a_formula_shows_all_its_variables_until_it_is_told_which(rt: HostRuntime) -> Result<(), Fail> {
+    let mut formula = Formula::new(rt.alloc(), 3);
+    for (var, shown) in [(0, false), (1, true), (3, true), (4, false)] {
+        assert_eq!(rt; formula.is_shown(var), shown, "{var}");
+    }
+    formula.restrict()?;
+    formula.show(2);
+    formula.restrict()?;
+    for (var, shown) in [(1, false), (2, true), (3, false), (4, false)] {
+        assert_eq!(rt; formula.is_shown(var), shown, "{var}");
+    }
+    Ok(())
+}
+
+#[test]
+fn numbers_write_a_formula_or_say_why_not(rt: HostRuntime) -> Result<(), Fail> {
+    let formula = Formula::of_numbers(rt.alloc(), 2, &[1, -2, 0, 0, 2, 0])?;
+    let numbers = numbers_of(rt.alloc(), &formula)?;
+    assert_eq!(rt; numbers.as_slice(), [1, -2, 0, 0, 2, 0].as_slice());
+    assert_eq!(rt; formula.vars(), 2);
+    assert!(rt; refused(rt.alloc(), 1_048_577, &[]) == Some(NumbersError::TooManyVars));
+    assert!(rt; refused(rt.alloc(), 2, &[1, 0, 3, 0]) == Some(NumbersError::NoLiteral(2)));
+    assert!(rt; refused(rt.alloc(), 2, &[i32::MIN, 0]) == Some(NumbersError::NoLiteral(0)));
+    assert!(rt; refused(rt.alloc(), 2, &[1, 0, 2]) == Some(NumbersError::Unended));
+    Ok(())
+}
+
+/// The numbers that write a formula's clauses.
+fn numbers_of(alloc: Global, formula: &Formula) -> Result<Vec<i32>, Fail> {
+    let mut numbers = Vec::new(alloc);
     for clause in formula.clauses() {
-        for lit in &shared(clause).lits {
+        for lit in shared(clause) {
             numbers.push(lit.number())?;
         }
         numbers.push(0)?;
     }
-    assert_eq!(rt; numbers.as_slice(), [-2, 1, 0, 0].as_slice());
-    Ok(())
+    Ok(numbers)
+}
+
+/// Why the numbers write no formula.
+fn refused(alloc: Global, vars: u32, numbers: &[i32]) -> Option<NumbersError> {
+    Formula::of_numbers(alloc, vars, numbers).err()
 }
 
 #[test]
