@@ -1,32 +1,10 @@
 ghost use Rattle.std.specs.Prelude.{◌≡◌, length, IfOk};
 
 use crate::{Marks, critical};
-use cnf_core::{Clause, Formula, Lit, Values};
+use cnf_core::{Formula, Values};
 use model_check::is_model;
 use std::alloc::Global;
 use std::test::Fail;
-
-/// The formula over so many variables with these clauses, each closed by a 0, in DIMACS numbers.
-fn formula_of(alloc: Global, vars: u32, numbers: &[i32]) -> Result<Formula, Fail> {
-    if vars > cnf_core::MAX_VARS {
-        return Err("too many variables".into());
-    }
-    let mut formula = Formula::new(alloc, vars);
-    let mut lits = Vec::new(alloc);
-    for number in numbers {
-        match Lit::of(*number) {
-            Some(lit) => lits.push(lit)?,
-            None => {
-                if !formula.room(&lits) {
-                    return Err("a clause without room".into());
-                }
-                formula.push(Clause { lits })?;
-                lits = Vec::new(alloc);
-            }
-        }
-    }
-    Ok(formula)
-}
 
 /// The marks of a model, made over those of the model before.
 fn marks_of(alloc: Global, numbers: &[i32], values: &[bool]) -> Result<Marks, Fail>
@@ -36,7 +14,7 @@ fn marks_of(alloc: Global, numbers: &[i32], values: &[bool]) -> Result<Marks, Fa
         return Err("too many values".into());
     }
     let vars = values.len() as u32;
-    let formula = formula_of(alloc, vars, numbers)?;
+    let formula = Formula::of_numbers(alloc, vars, numbers)?;
     let mut model = Values::new(alloc, vars)?;
     let mut marks = Marks::new(alloc, vars)?;
     for (i, value) in values.iter().enumerate() {

@@ -1,29 +1,7 @@
 use crate::is_model;
-use cnf_core::{Clause, Formula, Lit, Values};
+use cnf_core::{Formula, Values};
 use std::alloc::Global;
 use std::test::Fail;
-
-/// The formula over so many variables with these clauses, each closed by a 0, in DIMACS numbers.
-fn formula_of(alloc: Global, vars: u32, numbers: &[i32]) -> Result<Formula, Fail> {
-    if vars > cnf_core::MAX_VARS {
-        return Err("too many variables".into());
-    }
-    let mut formula = Formula::new(alloc, vars);
-    let mut lits = Vec::new(alloc);
-    for number in numbers {
-        match Lit::of(*number) {
-            Some(lit) => lits.push(lit)?,
-            None => {
-                if !formula.room(&lits) {
-                    return Err("a clause without room".into());
-                }
-                formula.push(Clause { lits })?;
-                lits = Vec::new(alloc);
-            }
-        }
-    }
-    Ok(formula)
-}
 
 #[test]
 fn a_model_makes_a_literal_of_each_clause_true(rt: HostRuntime) -> Result<(), Fail> {
@@ -39,7 +17,7 @@ fn a_model_makes_a_literal_of_each_clause_true(rt: HostRuntime) -> Result<(), Fa
         (0, [].as_slice(), [].as_slice(), true),
         (0, [0].as_slice(), [].as_slice(), false),
     ] {
-        let formula = formula_of(rt.alloc(), vars, numbers)?;
+        let formula = Formula::of_numbers(rt.alloc(), vars, numbers)?;
         let mut assignment = Values::new(rt.alloc(), vars)?;
         for (i, value) in values.iter().enumerate() {
             let var = i as u32 + 1;

@@ -4,7 +4,7 @@ use Rattle.std.specs.Int.{bit_at}
 use Rattle.std.proofs.lemmas.Bool.{cases_eq}
 use Rattle.std.proofs.lemmas.Nat.Bits.{bit_at-zero, bit_at_set_same, bit_at_set_other}
 use Rattle.cnf_core.specs.Literals.{Assignment}
-use Rattle.model_store.specs.Packed.{HasValues}
+use Rattle.model_store.specs.Steps.Packed.{HasValues}
 
 -- the lowest bits are values of the assignment, and the other bits are 0
 pub record HasBits (a : Assignment) (first count word : ℕ) : Type 0 where

@@ -5,7 +5,7 @@ use Rattle.std.proofs.Math.Seq.{drop-append-add}
 use Rattle.std.proofs.lemmas.List.{length-drop, drop-append-le}
 use Rattle.std.proofs.lemmas.List.FromFn.{length-map-range_with_len, get_or-map-range_with_len, map-range_with_len_more}
 use Rattle.cnf_core.specs.Literals.{Assignment}
-use Rattle.model_store.specs.Packed.{words_for, unpacked, all_unpacked}
+use Rattle.model_store.specs.Steps.Packed.{words_for, unpacked, all_unpacked}
 use Rattle.model_store.proofs.Words.{map-range_same, unpacked-append}
 
 -- the words of the values are enough

@@ -5,7 +5,7 @@ use Rattle.std.specs.List.{range_with_len}
 use Rattle.std.proofs.lemmas.List.{get_or-drop, get_or_append_left}
 use Rattle.std.proofs.lemmas.List.FromFn.{length-map-range_with_len, get_or-map-range_with_len, fill_by_all}
 use Rattle.cnf_core.specs.Literals.{Assignment, value_of}
-use Rattle.model_store.specs.Packed.{words_for, bit_value, unpacked, HasValues, AppendsValues}
+use Rattle.model_store.specs.Steps.Packed.{words_for, bit_value, unpacked, HasValues, AppendsValues}
 
 -- functions that agree on the indexes make the same list
 pub map-range_same : {X : Type 0} (f g : ℕ → X) (n : ℕ) (d : X) → ((k : ℕ) → k < n → f k ≡ g k)

@@ -1,3 +1,3 @@
-pub mod Packed
+pub mod Steps
 pub mod Stores
 pub mod Witnesses

@@ -2,7 +2,7 @@
 use Rattle.std.specs.Prelude.{◌≡◌, ℕ, ◌*◌, ◌^◌, ◌≤◌, List, [], ◌∷◌, ◌++◌, length, All, slice_index_or}
 use Rattle.cnf_core.specs.Literals.{Assignment}
 use Rattle.cnf_core.specs.Formulas.{Cnf, IsModel}
-use Rattle.model_store.specs.Packed.{words_for, all_unpacked}
+use Rattle.model_store.specs.Steps.Packed.{words_for, all_unpacked}
 
 -- a formula, and models of it in the order in which they came
 pub record Store : Type 0 where

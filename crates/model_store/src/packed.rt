@@ -1,5 +1,5 @@
 ghost use Rattle.std.specs.Prelude.{◌≡◌, ◌*◌, ◌<◌, ◌≤◌, ◌^◌, length, vec_len, OnOk, OnErr};
-ghost use Rattle.model_store.specs.Packed.{words_for, HasValues, AppendsValues};
+ghost use Rattle.model_store.specs.Steps.Packed.{words_for, HasValues, AppendsValues};
 
 use cnf_core::{NoMemory, Values};
 

@@ -27,7 +27,7 @@ pub struct ModelStore<'f> {
 }
 
 impl<'f> Model for ModelStore<'f> {
-    ghost use Rattle.model_store.specs.Packed.{all_unpacked};
+    ghost use Rattle.model_store.specs.Steps.Packed.{all_unpacked};
     ghost use Rattle.model_store.specs.Stores.{Store, store_of, IsBlock};
 
     ghost Value = { Store };

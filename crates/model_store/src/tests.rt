@@ -1,7 +1,7 @@
 ghost use Rattle.std.specs.Prelude.{◌≡◌};
 
 use crate::{ModelStore, Witness};
-use cnf_core::{Clause, Formula, Lit, Values};
+use cnf_core::{Formula, Values};
 use model_check::is_model;
 use std::alloc::Global;
 use std::test::Fail;
@@ -9,28 +9,6 @@ use std::test::Fail;
 /// What threads may share, as a store.
 fn shared<T: Send + Sync>(value: &T) -> &T {
     value
-}
-
-/// The formula over so many variables with these clauses, each closed by a 0, in DIMACS numbers.
-fn formula_of(alloc: Global, vars: u32, numbers: &[i32]) -> Result<Formula, Fail> {
-    if vars > cnf_core::MAX_VARS {
-        return Err("too many variables".into());
-    }
-    let mut formula = Formula::new(alloc, vars);
-    let mut lits = Vec::new(alloc);
-    for number in numbers {
-        match Lit::of(*number) {
-            Some(lit) => lits.push(lit)?,
-            None => {
-                if !formula.room(&lits) {
-                    return Err("a clause without room".into());
-                }
-                formula.push(Clause { lits })?;
-                lits = Vec::new(alloc);
-            }
-        }
-    }
-    Ok(formula)
 }
 
 /// Stores the model that makes just these variables true.
@@ -69,7 +47,7 @@ fn against(store: &ModelStore, formula: &Formula, w: Witness, phase: bool) -> Op
 fn models_come_back_as_they_went_in(rt: HostRuntime) -> Result<(), Fail> {
     let alloc = rt.alloc();
     for last in [3, 63, 64, 65, 128, 130] {
-        let formula = formula_of(alloc, last, [1, 2, 0].as_slice())?;
+        let formula = Formula::of_numbers(alloc, last, [1, 2, 0].as_slice())?;
         let mut store = ModelStore::new(alloc, &formula);
         assert_eq!(rt;
             push(alloc, &mut store, &formula, [1, last].as_slice())?,
@@ -119,7 +97,7 @@ fn models_come_back_as_they_went_in(rt: HostRuntime) -> Result<(), Fail> {
 #[test]
 fn a_witness_is_a_model_with_the_other_value(rt: HostRuntime) -> Result<(), Fail> {
     let alloc = rt.alloc();
-    let formula = formula_of(alloc, 2, [1, 2, 0, 1, -2, 0].as_slice())?;
+    let formula = Formula::of_numbers(alloc, 2, [1, 2, 0, 1, -2, 0].as_slice())?;
     let mut store = ModelStore::new(alloc, &formula);
     assert_eq!(rt; push(alloc, &mut store, &formula, [1, 2].as_slice())?, 0);
     assert_eq!(rt; push(alloc, &mut store, &formula, [1].as_slice())?, 1);

@@ -1,6 +1,6 @@
 -- After the loop each word has its values, and the front is as it was.
 use Rattle.std.proofs.Common.{◌≡◌, ◌+◌, length, take, get_or, ap, ◌∙◌, subst, arith, rules}
-use Rattle.model_store.specs.Packed.{words_for, HasValues}
+use Rattle.model_store.specs.Steps.Packed.{words_for, HasValues}
 use Rattle.model_store.proofs.Words.{appended_by}
 use Rattle.model_store.proofs.packed.push_packed.Goals as goal
 

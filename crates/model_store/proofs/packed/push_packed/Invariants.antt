@@ -1,6 +1,6 @@
 -- The block keeps its front, and has the words written so far.
 use Rattle.std.proofs.Common.{◌≡◌, ℕ, ◌+◌, ◌<◌, length, take, get_or}
-use Rattle.model_store.specs.Packed.{HasValues}
+use Rattle.model_store.specs.Steps.Packed.{HasValues}
 use Rattle.model_store.proofs.packed.push_packed.Given as goal
 
 abbrev pub invariant-loop-j : goal.invariant-loop-j

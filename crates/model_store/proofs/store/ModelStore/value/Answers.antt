@@ -1,6 +1,6 @@
 -- The bit at the variable's place in the words of the model.
 use Rattle.std.proofs.Common.{◌≡◌, ap, ◌∙◌, arith}
-use Rattle.model_store.specs.Packed.{words_for}
+use Rattle.model_store.specs.Steps.Packed.{words_for}
 use Rattle.model_store.proofs.Values.{word_within, bit_is_value}
 use Rattle.model_store.proofs.store.ModelStore.value.Goals as goal
 
