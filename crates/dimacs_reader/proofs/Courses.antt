@@ -10,7 +10,8 @@ use Rattle.dimacs_reader.specs.Pieces.{lines}
 use Rattle.dimacs_reader.specs.declared.word.Word.{Word}
 use Rattle.dimacs_reader.specs.declared.word.Word.TheVariants.{Nothing}
 use Rattle.dimacs_reader.specs.Steps.Words.{byte_after, word_of, is_nothing}
-use Rattle.dimacs_reader.specs.Steps.Machine.{Scanned, scanned_at, between_at, fresh_scan, is_idle, after_token, after_end, flushed_at, flushed}
+use Rattle.dimacs_reader.specs.Steps.Machine.{Scanned, scanned_at, between_at, fresh_scan, is_idle, after_token, after_end}
+use Rattle.dimacs_reader.specs.Steps.Machine.{flushed_at, flushed}
 use Rattle.dimacs_reader.specs.Steps.Machine.{after_byte, after_bytes}
 use Rattle.dimacs_reader.proofs.Words.{Tells, tells}
 use Rattle.dimacs_reader.proofs.Tokens.{course_after, AreFew, few_course_if, few_after_token, few_after_end, course_of_word}

@@ -153,9 +153,10 @@ run_second end e n b (t ∷ ts) ls others = run_second_by (bytes_eq t.bytes (cod
 c_begins : (bytes : List ℕ) → bytes_eq bytes (codes "c") ≡ true → bytes_begin_with 99 bytes ≡ true
 c_begins [] is = is
 c_begins (b ∷ bs) is = c_begins_by (b == 99) (bytes_eq bs []) is
-  where c_begins_by : (x y : Bool) → x && y ≡ true → x ≡ true
-        c_begins_by true y is = refl
-        c_begins_by false y is = is
+  where
+    c_begins_by : (x y : Bool) → x && y ≡ true → x ≡ true
+    c_begins_by true y is = refl
+    c_begins_by false y is = is
 
 -- a line by its first token
 run_first : (comment c percent : Bool) → (c ≡ true → comment ≡ true) → (end e n place : ℕ) (b : Partial) (r : Result Partial Fault)

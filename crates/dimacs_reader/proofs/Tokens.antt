@@ -1,5 +1,6 @@
 -- What a token leads to, by its bytes.
-use Rattle.std.proofs.Common.{◌≡◌, ℕ, ◌^◌, ◌-◌, ◌<◌, ◌≤◌, ◌==◌, Bool, true, false, if◌then◌else◌, Option, Some, None, option_map, refl, ap, arith}
+use Rattle.std.proofs.Common.{◌≡◌, ℕ, ◌^◌, ◌-◌, ◌<◌, ◌≤◌, ◌==◌, Bool, true, false, if◌then◌else◌, Option, Some, None}
+use Rattle.std.proofs.Common.{option_map, refl, ap, arith}
 use Rattle.std.specs.Prelude.{Result, Ok, Err, ◌&&◌, nat_lt, nat_le, length, codes, bytes_eq}
 use Rattle.std.proofs.lemmas.Bool.{ltb-true, ltb-false, lt-ltb, ne_eqb}
 use Rattle.cnf_core.specs.Formulas.{Cnf}
@@ -16,7 +17,8 @@ use Rattle.dimacs_reader.specs.Steps.Machine.{Showing, Shown, Done, Failed}
 use Rattle.dimacs_reader.specs.declared.word.Word.{Word}
 use Rattle.dimacs_reader.specs.Pieces.{Piece}
 use Rattle.dimacs_reader.specs.Numbers.{capped, literal_of}
-use Rattle.dimacs_reader.specs.Reading.{fault_at, bytes_begin_with, limited, Partial, no_clauses, literal, literal_from, token, show_number, ended}
+use Rattle.dimacs_reader.specs.Reading.{fault_at, bytes_begin_with, limited, Partial, no_clauses, literal, literal_from, token}
+use Rattle.dimacs_reader.specs.Reading.{show_number, ended}
 use Rattle.dimacs_reader.specs.Steps.Words.{is_p, is_cnf, is_show_word, is_percent, is_remark, number_in, literal_in}
 use Rattle.dimacs_reader.specs.Steps.Machine.{course_at, stage_of, failed, word_stage, after_literal, show_stage, after_word}
 use Rattle.dimacs_reader.specs.Steps.Machine.{show_course, after_line, is_idle, after_token_in, after_token, after_end}

@@ -1,5 +1,6 @@
 -- What a token's bytes are, read one by one, is what they spell.
-use Rattle.std.proofs.Common.{◌≡◌, ℕ, zero, suc, ◌+◌, ◌-◌, ◌*◌, ◌==◌, Bool, true, false, if◌then◌else◌, List, [], ◌∷◌, option_map, refl, arith, inl, inr}
+use Rattle.std.proofs.Common.{◌≡◌, ℕ, zero, suc, ◌+◌, ◌-◌, ◌*◌, ◌==◌, Bool, true, false, if◌then◌else◌, List, [], ◌∷◌}
+use Rattle.std.proofs.Common.{option_map, refl, arith, inl, inr}
 use Rattle.std.specs.Prelude.{fold, codes, bytes_eq}
 use Rattle.std.specs.List.{list_all}
 use Rattle.std.specs.Char.{is_ascii_digit}
@@ -9,8 +10,10 @@ use Rattle.cnf_core.specs.Spelling.{number_of_digits}
 use Rattle.dimacs_reader.specs.Numbers.{capped, negative_of, literal_of}
 use Rattle.dimacs_reader.specs.Reading.{bytes_begin_with}
 use Rattle.dimacs_reader.specs.declared.word.Word.{Word}
-use Rattle.dimacs_reader.specs.declared.word.Word.TheVariants.{P, C, Cn, Cnf, Remark, S, Sh, Sho, Show, Percent, Digits, Minus, Negative, Other}
-use Rattle.dimacs_reader.specs.Steps.Words.{digit_after, byte_after, word_of, is_nothing, is_p, is_cnf, is_c, is_show_word, is_remark, is_percent, number_in, literal_in}
+use Rattle.dimacs_reader.specs.declared.word.Word.TheVariants.{P, C, Cn, Cnf, Remark, S, Sh, Sho, Show, Percent, Digits, Minus}
+use Rattle.dimacs_reader.specs.declared.word.Word.TheVariants.{Negative, Other}
+use Rattle.dimacs_reader.specs.Steps.Words.{digit_after, byte_after, word_of, is_nothing, is_p, is_cnf, is_c, is_show_word}
+use Rattle.dimacs_reader.specs.Steps.Words.{is_remark, is_percent, number_in, literal_in}
 
 -- a literal whose variable is capped
 abbrev pub capped_literal : Literal → Literal
@@ -78,13 +81,16 @@ negative_word n (b ∷ bs) = negative_by (is_ascii_digit b) n b bs (λ m. negati
 
 -- each kind of first byte
 tells_p : (bs : List ℕ) → Tells (fold byte_after P bs) (112 ∷ bs)
-tells_p [] = record { filled = refl; p = refl; cnf = refl; c = refl; show = refl; remark = refl; percent = refl; number = refl; literal = refl }
+tells_p [] =
+    record { filled = refl; p = refl; cnf = refl; c = refl; show = refl; remark = refl; percent = refl; number = refl; literal = refl }
 tells_p (b ∷ bs) =
-    rw (others bs) (record { filled = refl; p = refl; cnf = refl; c = refl; show = refl; remark = refl; percent = refl; number = refl; literal = refl })
+    rw (others bs)
+    (record { filled = refl; p = refl; cnf = refl; c = refl; show = refl; remark = refl; percent = refl; number = refl; literal = refl })
 
 tells_percent : (bs : List ℕ) → Tells (fold byte_after Percent bs) (37 ∷ bs)
 tells_percent bs =
-    rw (percents bs) (record { filled = refl; p = refl; cnf = refl; c = refl; show = refl; remark = refl; percent = refl; number = refl; literal = refl })
+    rw (percents bs)
+    (record { filled = refl; p = refl; cnf = refl; c = refl; show = refl; remark = refl; percent = refl; number = refl; literal = refl })
 
 -- behind a `c`
 tells_remark : (w : Word) (bs : List ℕ) → is_remark w ≡ true → is_cnf w ≡ bytes_eq (99 ∷ bs) (codes "cnf")
@@ -129,7 +135,8 @@ is_behind_s Show = true
 is_behind_s Other = true
 is_behind_s w = false
 
-tells_behind_s : (w : Word) (bs : List ℕ) → is_behind_s w ≡ true → is_show_word w ≡ bytes_eq (115 ∷ bs) (codes "show") → Tells w (115 ∷ bs)
+tells_behind_s : (w : Word) (bs : List ℕ) → is_behind_s w ≡ true → is_show_word w ≡ bytes_eq (115 ∷ bs) (codes "show")
+    → Tells w (115 ∷ bs)
 tells_behind_s S bs behind show =
     record { filled = refl; p = refl; cnf = refl; c = refl; show = show; remark = refl; percent = refl; number = refl; literal = refl }
 tells_behind_s Sh bs behind show =
@@ -193,18 +200,38 @@ tells_negative true d ds digit digits =
       number = refl;
       literal = rw (digit, digits) (negative_capped n);
     }
-tells_negative false d ds digit digits =
-    record { filled = refl; p = refl; cnf = refl; c = refl; show = refl; remark = refl; percent = refl; number = refl; literal = rw (digit, digits) refl }
+tells_negative false d ds digit digits = record {
+  filled = refl;
+  p = refl;
+  cnf = refl;
+  c = refl;
+  show = refl;
+  remark = refl;
+  percent = refl;
+  number = refl;
+  literal = rw (digit, digits) refl;
+}
 
 tells_minus_by : (digit : Bool) (d : ℕ) (ds : List ℕ) → is_ascii_digit d ≡ digit
     → Tells (fold byte_after (if digit then Negative (digit_after 0 d) else Other) ds) (45 ∷ d ∷ ds)
 tells_minus_by true d ds digit =
     rw (negative_word (0 * 10 + (d - 48)) ds) (tells_negative (list_all is_ascii_digit ds) d ds digit refl)
 tells_minus_by false d ds digit =
-    rw (others ds) (record { filled = refl; p = refl; cnf = refl; c = refl; show = refl; remark = refl; percent = refl; number = refl; literal = rw digit refl })
+    rw (others ds) (record {
+      filled = refl;
+      p = refl;
+      cnf = refl;
+      c = refl;
+      show = refl;
+      remark = refl;
+      percent = refl;
+      number = refl;
+      literal = rw digit refl;
+    })
 
 tells_minus : (bs : List ℕ) → Tells (fold byte_after Minus bs) (45 ∷ bs)
-tells_minus [] = record { filled = refl; p = refl; cnf = refl; c = refl; show = refl; remark = refl; percent = refl; number = refl; literal = refl }
+tells_minus [] =
+    record { filled = refl; p = refl; cnf = refl; c = refl; show = refl; remark = refl; percent = refl; number = refl; literal = refl }
 tells_minus (d ∷ ds) = tells_minus_by (is_ascii_digit d) d ds refl
 
 -- a first byte of no other kind
