@@ -129,8 +129,7 @@ ended_with clauses place F [] =
 abbrev pub ended : ℕ → ℕ → Partial → Result Cnf Fault
 ended clauses place b = ended_with clauses place b.formula b.clause
 
--- the same over the formula that shows just what it is told to show, and over the one that shows one
--- variable more
+-- what was read, where the formula is told what to show, and where it is told to show one variable more
 abbrev pub restricting : Partial → Partial
 restricting b = partial_of (restricted b.formula) b.clause b.literals
 
@@ -143,34 +142,34 @@ begins_as [] ts = true
 begins_as (w ∷ ws) [] = false
 begins_as (w ∷ ws) (t ∷ ts) = bytes_eq t.bytes w && begins_as ws ts
 
--- a show line begins with three words, each a token of its own
+-- a show line: its first three tokens are `c`, `p` and `show`
 abbrev pub is_show : List Piece → Bool
 is_show ts = begins_as (codes "c" ∷ codes "p" ∷ codes "show" ∷ []) ts
 
--- the number of a token of a show line: one of the formula's variables, or zeros, which end the line
+-- a further token of a show line: the number of a variable, or zeros, which are the line's end
 abbrev pub show_number : ℕ → ℕ → Option ℕ → Result ℕ Fault
 show_number vars place None = fault_at BadShow place
 show_number vars place (Some v) = if nat_lt vars v then fault_at BadShow place else Ok v
 
--- behind the end of a show line no token is left
+-- behind the end no token may follow
 abbrev pub show_end : Partial → List Piece → Result Partial Fault
 show_end b [] = Ok b
 show_end b (t ∷ ts) = fault_at BadShow t.place
 
--- the variables of a show line and its end; where that is missing the fault is at the line's end
+-- the further tokens: variables, and then the end. Where that is missing, the fault is at the line's end
 abbrev pub show_tokens : ℕ → Partial → List Piece → Result Partial Fault
 show_tokens end b [] = fault_at BadShow end
 show_tokens end b (t ∷ ts) =
     show_number b.formula.vars t.place (number_of_digits t.bytes)
     >>= λ v. if v == 0 then show_end b ts else show_tokens end (showing_also b v) ts
 
--- the formula shows just the variables of the show lines, where there is one
+-- from the first show line on, the formula shows just the variables of all show lines
 abbrev pub show_line : ℕ → Partial → List Piece → Result Partial Fault
 show_line end b ts = show_tokens end (restricting b) (drop 3 ts)
 
 -- the formula that the lines behind the header make. They end where the text ends, or at a line
 -- whose first byte that is no blank is a `%`, and then the other lines are ignored. A show line may
--- stand inside a clause, too
+-- stand inside a clause, as a comment may
 abbrev pub clause_lines : ℕ → ℕ → List Line → Partial → Result Cnf Fault
 clause_lines clauses end [] b = ended clauses end b
 clause_lines clauses end (l ∷ ls) b =

@@ -116,8 +116,7 @@ impl Course {
         }
     }
 
-    /// After the words that begin a show line. One stands only among the clauses; elsewhere it is a
-    /// comment.
+    /// After the words that begin a show line. Elsewhere than among the clauses it is a comment.
     fn begin_show(&mut self) -> Result<(), NoMemory>
         ensures { OnOk result (self.new ≡ show_course self.old.stage) }
     {

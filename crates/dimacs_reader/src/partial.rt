@@ -124,7 +124,7 @@ impl Partial {
         Ok(())
     }
 
-    /// The same over the formula that shows just what it is told to show.
+    /// The formula is told what to show. Where it was before, nothing changes.
     pub fn restrict(&mut self) -> Result<(), NoMemory>
         ensures { OnOk result (self.new ≡ restricting self.old) }
     {
@@ -132,7 +132,7 @@ impl Partial {
         Ok(())
     }
 
-    /// The same over the formula that shows just what it was told to show, and this variable.
+    /// The formula is told to show this variable, and is restricted first where it isn't yet.
     pub fn show(&mut self, var: u32) -> Result<(), NoMemory>
         requires { (0 < var) × (var ≤ self.old.formula.vars) }
         ensures { OnOk result (self.new ≡ showing_also self.old var) }
