@@ -50,15 +50,37 @@ fn read_cut(alloc: Global, front: &[u8], back: &[u8]) -> Result<Formula, ScanEnd
     scan.finish()
 }
 
-// The same formula in the form of a collection's files, and with carriage returns.
-const CHAINS: [&[u8]; 3] = [
-    CHAIN,
-    b"c a sample\np cnf 3  3 \n 1 0\nc between\n -1 2 0\n 2 3 0\n%\n0\n\n",
-    b"p cnf 3 3\r\n1 0\r\n-1 2 0\r\n2 3 0\r\n",
+// The same formula in the form of a collection's files, with carriage returns, and with show lines. With
+// each goes which variables are shown.
+const CHAINS: [(&[u8], [bool; 3]); 6] = [
+    (CHAIN, [true; 3]),
+    (
+        b"c a sample\np cnf 3  3 \n 1 0\nc between\n -1 2 0\n 2 3 0\n%\n0\n\n",
+        [true; 3],
+    ),
+    (b"p cnf 3 3\r\n1 0\r\n-1 2 0\r\n2 3 0\r\n", [true; 3]),
+    (
+        b"p cnf 3 3\nc p show 2 3 0\n1 0\n-1 2 0\n2 3 0\n",
+        [false, true, true],
+    ),
+    (b"p cnf 3 3\nc p show 0\n1 0\n-1 2 0\n2 3 0\n", [false; 3]),
+    (
+        b"c p show 9\np cnf 3 3\n1 0\n-1\n c\tp  show 003 00\r\n2 0\n2 3 0\nc p show 1 1 0",
+        [true, false, true],
+    ),
 ];
 
+// Which of three variables are shown.
+fn shown(formula: &Formula) -> [bool; 3] {
+    [
+        formula.is_shown(1),
+        formula.is_shown(2),
+        formula.is_shown(3),
+    ]
+}
+
 // A text with each kind of fault, and the fault's place.
-const FAULTS: [(&[u8], BadKind, usize); 8] = [
+const FAULTS: [(&[u8], BadKind, usize); 10] = [
     (b"p cnf 3 3\n1 0\n-1 2 0\n2 3\n", BadKind::Unended, 25),
     (b"p cnf 2 1\n3 0\n", BadKind::LiteralRange, 10),
     (b"p cnf 2 2\n1 0\n2 0\n1 2 0\n", BadKind::TooManyClauses, 18),
@@ -67,15 +89,18 @@ const FAULTS: [(&[u8], BadKind, usize); 8] = [
     (b"p cnf 2 1\n1 x 0\n", BadKind::BadNumber, 12),
     (b"p cnf 2 2\n1 2 0\n", BadKind::TooFewClauses, 16),
     (b"p cnf 1048577 0\n", BadKind::OverLimit, 6),
+    (b"p cnf 2 1\nc p show 3 0\n1 2 0\n", BadKind::BadShow, 19),
+    (b"p cnf 2 1\nc p show 1\n1 2 0\n", BadKind::BadShow, 20),
 ];
 
 #[test]
 fn each_cutting_in_two_gives_the_formula(rt: HostRuntime) -> Result<(), Fail> {
     let alloc = rt.alloc();
-    for text in CHAINS {
+    for (text, marks) in CHAINS {
         for cut in 0..=text.len() {
             let formula = read_cut(alloc, &text[..cut], &text[cut..])?;
             assert_eq!(rt; formula.vars(), 3);
+            assert_eq!(rt; shown(&formula), marks, "cut {cut}");
             assert_eq!(rt;
                 numbers(alloc, &formula)?.as_slice(),
                 [1, 0, -1, 2, 0, 2, 3, 0].as_slice(),
@@ -107,8 +132,9 @@ fn each_cutting_in_two_gives_the_fault(rt: HostRuntime) -> Result<(), Fail> {
 #[test]
 fn pieces_of_one_byte_give_the_formula_or_the_fault(rt: HostRuntime) -> Result<(), Fail> {
     let alloc = rt.alloc();
-    for text in CHAINS {
+    for (text, marks) in CHAINS {
         let formula = read_in_pieces(alloc, text, 1)?;
+        assert_eq!(rt; shown(&formula), marks);
         assert_eq!(rt;
             numbers(alloc, &formula)?.as_slice(),
             [1, 0, -1, 2, 0, 2, 3, 0].as_slice()

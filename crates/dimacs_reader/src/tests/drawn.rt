@@ -34,7 +34,13 @@ impl Draws {
     }
 }
 
-const FRONTS: [&[u8]; 4] = [b"", b"c p cnf 9 9\n", b" \t\r\n\n", b"cc\n c\n"];
+const FRONTS: [&[u8]; 5] = [
+    b"",
+    b"c p cnf 9 9\n",
+    b" \t\r\n\n",
+    b"cc\n c\n",
+    b"c p show 9\n",
+];
 
 const HEADERS: [&[u8]; 16] = [
     b"p cnf 2 2\n",
@@ -82,7 +88,22 @@ const TOKENS: [&[u8]; 22] = [
 
 const GAPS: [&[u8]; 6] = [b" ", b" ", b"\n", b"\r\n", b" \t ", b"\nc 1 0\n"];
 
-// A text of a front, a header, and some tokens. The literals of the first four come up most.
+// Show lines without a fault, and lines that almost are show lines.
+const SHOWS: [&[u8]; 10] = [
+    b"\nc p show 1 0\n",
+    b"\nc p show 2 00 \r\n",
+    b"\n c\tp\r show 002 1 0\n",
+    b"\nc p show 0\n",
+    b"\nc p shown 9 9\n",
+    b"\nc p sho w 9\n",
+    b"\ncp show 9\n",
+    b"\nc pshow 9\n",
+    b"\nc c p show 9\n",
+    b"\nc p\n",
+];
+
+// A text of a front, a header, and some tokens. The literals of the first four come up most. Sometimes
+// a line of those above stands among them, or the words of a show line.
 fn draw(alloc: Global, draws: &mut Draws) -> Result<Vec<u8>, AllocError> {
     let mut text = draws.pick(&FRONTS).to_vec(alloc)?;
     text.extend_from_slice(draws.pick(&HEADERS))?;
@@ -90,6 +111,11 @@ fn draw(alloc: Global, draws: &mut Draws) -> Result<Vec<u8>, AllocError> {
     for _ in 0..draws.below(12) {
         text.extend_from_slice(draws.pick(&TOKENS[..kinds]))?;
         text.extend_from_slice(draws.pick(&GAPS))?;
+        match draws.below(16) {
+            0 => text.extend_from_slice(b"\nc p show ")?,
+            1 | 2 => text.extend_from_slice(draws.pick(&SHOWS))?,
+            _ => {}
+        }
     }
     Ok(text)
 }
@@ -103,7 +129,9 @@ fn agree(
     Ok(match (scanned, plain) {
         (Ok(formula), Ok(reading)) => {
             let same = numbers(alloc, &formula)?.as_slice() == reading.numbers.as_slice();
-            same && formula.vars() == reading.vars
+            let vars = formula.vars();
+            let shown = (1..=vars).all(|var| formula.is_shown(var) == reading.shows(var));
+            same && vars == reading.vars && shown
         }
         (Err(scan_end), Err(end)) => scan_end == end,
         _ => false,
@@ -112,11 +140,11 @@ fn agree(
 
 // The place of what a reading gives in a table of all its ends.
 fn index_of(plain: &Result<Reading, ScanEnd>) -> usize
-    ensures { result < 10 }
+    ensures { result < 11 }
 {
     match plain {
         Ok(_) => 0,
-        Err(ScanEnd::Memory) => 9,
+        Err(ScanEnd::Memory) => 10,
         Err(ScanEnd::Bad { kind, .. }) => match kind {
             BadKind::NoHeader => 1,
             BadKind::BadHeader => 2,
@@ -126,6 +154,7 @@ fn index_of(plain: &Result<Reading, ScanEnd>) -> usize
             BadKind::TooFewClauses => 6,
             BadKind::Unended => 7,
             BadKind::OverLimit => 8,
+            BadKind::BadShow => 9,
         },
     }
 }
@@ -134,7 +163,7 @@ fn index_of(plain: &Result<Reading, ScanEnd>) -> usize
 fn drawn_texts_mean_what_the_plain_reader_says(rt: HostRuntime) -> Result<(), Fail> {
     let alloc = rt.alloc();
     let mut draws = Draws { state: 1 };
-    let mut ends = [0_usize; 10];
+    let mut ends = [0_usize; 11];
     for round in 0..4000_usize {
         let text = draw(alloc, &mut draws)?;
         if text.len() > 1000 {
@@ -147,7 +176,7 @@ fn drawn_texts_mean_what_the_plain_reader_says(rt: HostRuntime) -> Result<(), Fa
         assert!(rt; agree(alloc, scanned, plain)?, "round {round}");
     }
     // Formulas and each kind of fault came up.
-    for (end, count) in ends[..9].iter().enumerate() {
+    for (end, count) in ends[..10].iter().enumerate() {
         assert!(rt; *count > 10, "end {end}");
     }
     Ok(())

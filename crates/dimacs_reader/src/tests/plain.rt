@@ -21,7 +21,7 @@ struct Line {
 }
 
 // What was read: the header's numbers, the literals' numbers with a 0 behind each clause, how many
-// clauses are ended, and whether one is open.
+// clauses are ended, whether one is open, and the variables that show lines name, if there is one.
 #[derive(Drop)]
 pub struct Reading {
     pub vars: u32,
@@ -29,6 +29,16 @@ pub struct Reading {
     count: u32,
     ended: u32,
     open: bool,
+    shown: Option<Vec<u32>>,
+}
+
+impl Reading {
+    pub fn shows(&self, var: u32) -> bool {
+        match &self.shown {
+            None => true,
+            Some(vars) => vars.contains(&var),
+        }
+    }
 }
 
 fn bad<T>(kind: BadKind, place: u64) -> Result<T, ScanEnd> {
@@ -117,6 +127,7 @@ fn header_of(alloc: Global, line: &Line) -> Result<Reading, ScanEnd> {
         count,
         ended: 0,
         open: false,
+        shown: None,
     })
 }
 
@@ -163,6 +174,41 @@ fn begins_with(token: &Token, byte: u8) -> bool {
     token.bytes.first() == Some(&byte)
 }
 
+fn is_word(token: &Token, word: &[u8]) -> bool {
+    token.bytes.as_slice() == word
+}
+
+fn is_show_line(line: &Line) -> bool {
+    match line.tokens.as_slice() {
+        [first, second, third, ..] => {
+            is_word(first, b"c") && is_word(second, b"p") && is_word(third, b"show")
+        }
+        _ => false,
+    }
+}
+
+fn read_show(alloc: Global, mut reading: Reading, line: &Line) -> Result<Reading, ScanEnd> {
+    let mut shown = match reading.shown.take() {
+        Some(vars) => vars,
+        None => Vec::new(alloc),
+    };
+    let mut ended = false;
+    for token in line.tokens.iter().skip(3) {
+        match number_of(&token.bytes) {
+            Some(0) if !ended => ended = true,
+            Some(number) if !ended && number.unsigned_abs() <= reading.vars => {
+                shown.push(number.unsigned_abs()).map_err(|_| NoMemory)?;
+            }
+            _ => return bad(BadKind::BadShow, token.place),
+        }
+    }
+    if !ended {
+        return bad(BadKind::BadShow, line.end);
+    }
+    reading.shown = Some(shown);
+    Ok(reading)
+}
+
 /// What the text means.
 pub fn plain_reading(alloc: Global, text: &[u8]) -> Result<Reading, ScanEnd> {
     let lines = lines_of(alloc, text)?;
@@ -171,13 +217,18 @@ pub fn plain_reading(alloc: Global, text: &[u8]) -> Result<Reading, ScanEnd> {
         let Some(first) = line.tokens.first() else {
             continue;
         };
-        if begins_with(first, b'c') {
+        let is_show = so_far.is_some() && is_show_line(line);
+        if begins_with(first, b'c') && !is_show {
             continue;
         }
         let Some(mut reading) = so_far else {
             so_far = Some(header_of(alloc, line)?);
             continue;
         };
+        if is_show {
+            so_far = Some(read_show(alloc, reading, line)?);
+            continue;
+        }
         if begins_with(first, b'%') {
             return ended(reading, first.place);
         }
