@@ -1,14 +1,12 @@
 -- A proof with one line more.
-use Rattle.std.proofs.Common.{◌≡◌, ℕ, if◌then◌else◌, List, [], ◌∷◌, ◌++◌, Option, Some, None, Result, Ok, map, refl, sym, ap, ◌∙◌}
+use Rattle.std.proofs.Common.{◌≡◌, List, [], ◌∷◌, ◌++◌, Result, Ok, refl, sym, ap, ◌∙◌}
 use Rattle.std.proofs.Common.{append_assoc, append-nil}
 use Rattle.std.specs.Prelude.{flat_map}
-use Rattle.std.specs.List.{list_all}
 use Rattle.std.proofs.lemmas.List.Concat.{flat_map-append}
-use Rattle.cnf_core.specs.Literals.{Literals, negated}
+use Rattle.cnf_core.specs.Literals.{Literals}
 use Rattle.cnf_core.specs.Formulas.{Cnf}
 use Rattle.lrat_lines.specs.declared.line.Line.{Line}
-use Rattle.lrat_lines.specs.Sets.{is_same, has_complements}
-use Rattle.lrat_lines.specs.Propagation.{Known, Refusal, NotUnit, open_literals, by_open, by_set, by_hints, rup}
+use Rattle.lrat_lines.specs.Propagation.{Refusal}
 use Rattle.lrat_lines.specs.Proofs.{Progress, start, then_line, after_lines, checked, added, reached}
 
 after_lines-push : (F : Cnf) (r : Result Progress Refusal) (lines : List Line) (line : Line)

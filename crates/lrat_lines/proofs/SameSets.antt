@@ -5,11 +5,11 @@ use Rattle.std.specs.List.{list_all}
 use Rattle.std.proofs.lemmas.Bool.{cases_Bool, false_from_ne_true, both_ways}
 use Rattle.std.proofs.lemmas.List.Elements.{Contains-push, Contains-push_cases, Contains-append_left}
 use Rattle.cnf_core.specs.Literals.{Literal, Literals, negated}
-use Rattle.cnf_core.proofs.Lists.{Contains-head, Contains-tail, Contains-cons_cases, Contains-nil, nil_without_members}
+use Rattle.cnf_core.proofs.Lists.{Contains-head, Contains-tail, Contains-cons_cases, Contains-nil}
 use Rattle.cnf_core.proofs.Lists.{Contains-filter, kept_of_Contains-filter, passes_of_list_all, list_all_of_members}
 use Rattle.cnf_core.proofs.Lists.{member_of_list_any, list_any_of_member}
 use Rattle.lrat_lines.specs.Sets.{is_same, has, has_complements, IsSameSet}
-use Rattle.lrat_lines.specs.Propagation.{Known, IsSameKnown, AreSameKnown, Refusal, UnknownHint, NotUnit, NoConflict}
+use Rattle.lrat_lines.specs.Propagation.{Known, IsSameKnown, AreSameKnown, Refusal}
 use Rattle.lrat_lines.specs.Propagation.{open_literals, by_open, by_set, by_hints, rup}
 use Rattle.lrat_lines.specs.Laws.{PropagatesBySets}
 use Rattle.lrat_lines.proofs.LiteralSets.{is_same-true, is_same_of_equal, Contains_of_has, has_of_Contains}
