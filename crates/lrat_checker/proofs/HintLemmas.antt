@@ -1,5 +1,6 @@
 -- A clause whose negation is taken to be true, and hints that are followed.
-use Rattle.std.proofs.Common.{◌≡◌, ◌≢◌, ℕ, ◌+◌, ◌<◌, Bool, true, false, not, ◌||◌, ◌&&◌, ◌==◌, if◌then◌else◌, List, [], ◌∷◌, ◌++◌, Contains, Option, Some, None, map, length, take, drop, get_or, inl, inr, refl, sym, ap, ◌∙◌, subst, take-append-drop}
+use Rattle.std.proofs.Common.{◌≡◌, ◌≢◌, ℕ, ◌+◌, ◌<◌, Bool, true, false, not, ◌||◌, ◌&&◌, ◌==◌, if◌then◌else◌, List, [], ◌∷◌, ◌++◌, Contains}
+use Rattle.std.proofs.Common.{Option, Some, None, map, length, take, drop, get_or, inl, inr, refl, sym, ap, ◌∙◌, subst, take-append-drop}
 use Rattle.std.proofs.lemmas.Bool.{false_from_ne_true, both_ways, cases_Bool}
 use Rattle.std.proofs.lemmas.List.{take_more, drop_more, map_more, drop_all}
 use Rattle.std.proofs.lemmas.List.Elements.{Contains-get_or, Contains-push_cases, Contains-append_left}
@@ -9,7 +10,7 @@ use Rattle.lrat_lines.specs.Sets.{is_same, has, has_complements}
 use Rattle.lrat_lines.specs.Propagation.{Known, Refusal, UnknownHint, NotUnit, open_literals, by_hints, by_set}
 use Rattle.lrat_lines.proofs.LiteralSets.{is_same-true, is_same_of_equal, Contains_of_has, has_of_Contains}
 use Rattle.lrat_checker.specs.declared.assignment.Open.TheVariants.{Never, Single, Several}
-use Rattle.lrat_checker.specs.Assigned.{open_of}
+use Rattle.lrat_checker.specs.Steps.Assigned.{open_of}
 use Rattle.lrat_checker.proofs.TableLemmas.{negated-negated, negated_back}
 use Rattle.lrat_checker.proofs.OpenLemmas.{by_open-never, by_open-single, by_open-several}
 

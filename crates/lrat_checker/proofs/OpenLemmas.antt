@@ -1,5 +1,6 @@
 -- The literals of a clause that are not false, one after another.
-use Rattle.std.proofs.Common.{◌≡◌, ℕ, ◌+◌, ◌<◌, Bool, true, false, not, ◌&&◌, if◌then◌else◌, List, [], ◌∷◌, ◌++◌, Option, Some, None, length, take, get_or, inl, inr, refl, sym, ap, ◌∙◌, subst, Contains, append-nil}
+use Rattle.std.proofs.Common.{◌≡◌, ℕ, ◌+◌, ◌<◌, Bool, true, false, not, ◌&&◌, if◌then◌else◌, List, [], ◌∷◌, ◌++◌, Option, Some, None}
+use Rattle.std.proofs.Common.{length, take, get_or, inl, inr, refl, sym, ap, ◌∙◌, subst, Contains, append-nil}
 use Rattle.std.specs.List.{list_all}
 use Rattle.std.proofs.lemmas.Bool.{cases_Bool}
 use Rattle.std.proofs.lemmas.List.Elements.{filter_more}
@@ -9,7 +10,7 @@ use Rattle.lrat_lines.specs.Sets.{is_same, has}
 use Rattle.lrat_lines.specs.Propagation.{Refusal, NotUnit, open_literals, by_open}
 use Rattle.lrat_checker.specs.declared.assignment.Open.{Open}
 use Rattle.lrat_checker.specs.declared.assignment.Open.TheVariants.{Never, Single, Several}
-use Rattle.lrat_checker.specs.Assigned.{open_of, opened}
+use Rattle.lrat_checker.specs.Steps.Assigned.{open_of, opened}
 
 and_true : (x : Bool) → (x && true) ≡ x
 and_true true = refl

@@ -1,22 +1,27 @@
 -- Which formula and lines a checker stands for after a line more.
-use Rattle.std.proofs.Common.{◌≡◌, ◌↔◌, ℕ, zero, suc, ◌+◌, ◌-◌, ◌==◌, ◌<◌, ◌≤◌, Bool, true, false, if◌then◌else◌, IsTrue, List, [], ◌∷◌, ◌++◌, Option, Some, None, Result, Ok, Err, length, inl, inr, refl, sym, ap, ◌∙◌, subst, append-nil, arith}
+use Rattle.std.proofs.Common.{◌≡◌, ◌↔◌, ℕ, zero, suc, ◌+◌, ◌-◌, ◌==◌, ◌<◌, ◌≤◌, Bool, true, false, if◌then◌else◌, IsTrue, List, [], ◌∷◌}
+use Rattle.std.proofs.Common.{◌++◌, Option, Some, None, Result, Ok, Err, length, inl, inr, refl, sym, ap, ◌∙◌, subst, append-nil, arith}
 use Rattle.std.specs.Prelude.{nat_le, nat_lt, find, is_none, slice_get, slice_index_or, OnOk, IfErr}
 use Rattle.std.specs.List.{list_any}
 use Rattle.std.proofs.lemmas.Bool.{cases_eq, eq-eqb, ne_eqb, both_ways}
 use Rattle.std.proofs.lemmas.List.{length_push}
 use Rattle.cnf_core.specs.Literals.{Literal, Literals, code_of}
-use Rattle.cnf_core.specs.Formulas.{Cnf, empty_formula, with_clause}
+use Rattle.cnf_core.specs.Formulas.{Cnf, with_clause}
 use Rattle.cnf_core.proofs.Lists.{Contains-nil}
 use Rattle.lrat_lines.specs.declared.line.Line.{Line}
 use Rattle.lrat_lines.specs.declared.line.Line.TheVariants.{Add, Delete}
 use Rattle.lrat_lines.specs.Sets.{HasSet, IsSameSet}
 use Rattle.lrat_lines.specs.Propagation.{Known, Refusal, IdNotRising, rup}
-use Rattle.lrat_lines.specs.Proofs.{Progress, start, with_set, without, unless_refused, refusal_of, unknown_of, after_add, after_line, then_line, checked, reached, IsReached}
-use Rattle.lrat_lines.proofs.Progressing.{rup-agree, checked-push, checked-nil, reached-push, reached-nil}
-use Rattle.lrat_checker.specs.Units.{is_unit, is_empty}
+use Rattle.lrat_lines.specs.Proofs.{Progress, start, with_set, without, unless_refused, refusal_of, unknown_of, after_add, after_line}
+use Rattle.lrat_lines.specs.Proofs.{then_line, checked, reached, IsReached}
+use Rattle.lrat_lines.proofs.SameSets.{rup-agree}
+use Rattle.lrat_lines.proofs.Progressing.{checked-push, checked-nil, reached-push, reached-nil}
+use Rattle.lrat_checker.specs.Steps.Units.{is_unit, is_empty}
 use Rattle.lrat_checker.specs.Refusals.{IsRefusal, refusal_in}
 use Rattle.lrat_checker.specs.declared.refused.Refused.{Refused}
-use Rattle.lrat_checker.specs.Checking.{Kept, known_of, StandsFor, Answers, add_refusal, first_unknown, Admits, Adds, Deletes, Forgets, IsFresh}
+use Rattle.lrat_checker.specs.Checking.{Kept, known_of, StandsFor, Answers}
+use Rattle.lrat_checker.specs.Steps.Taking.{add_refusal, first_unknown, Admits, Adds, Deletes, Forgets}
+use Rattle.lrat_checker.specs.Steps.Taking.{IsFresh}
 use Rattle.lrat_checker.proofs.UnitLemmas.{unit_of_same, same_of_unit, empty_of_same, same_of_empty, marks_push}
 
 -- one line more is checked by what the checker is as far as
@@ -24,15 +29,20 @@ checked_next : (kept : Kept) (F : Cnf) (lines : List Line) (line : Line) → (st
     → checked F (lines ++ line ∷ []) ≡ after_line F stands.progress line
 checked_next kept F lines line stands = checked-push F lines line ∙ ap (λ (r : Result Progress Refusal). then_line F r line) stands.taken
 
+-- the refusal of an addition by the greatest id so far, the number of variables and the sets that are known
+abbrev refusal_at : ℕ → ℕ → Known → ℕ → Literals → List ℕ → Option Refusal
+refusal_at top vars known id c hints =
+    if nat_le id top then Some (IdNotRising id) else refusal_of (find (λ (l : Literal). nat_lt vars l.var) c) (rup known hints c)
+
 -- the refusal of an addition is that by what the checker keeps
 same_refusal : (kept : Kept) (F : Cnf) (p : Progress) (id : ℕ) (c : Literals) (hints : List ℕ)
     → kept.vars ≡ F.vars → kept.top ≡ p.top → ((q : ℕ) → known_of kept.known q ≡ p.known q)
-    → add_refusal kept id c hints
-    ≡ (if nat_le id p.top then Some (IdNotRising id) else refusal_of (find (λ l. nat_lt F.vars l.var) c) (rup p.known hints c))
+    → add_refusal kept id c hints ≡ refusal_at p.top F.vars p.known id c hints
 same_refusal kept F p id c hints vars top known =
-    ap (λ (t : ℕ). if nat_le id t then Some (IdNotRising id) else refusal_of (find (λ (l : Literal). nat_lt kept.vars l.var) c) (rup (known_of kept.known) hints c)) top
-    ∙ ap (λ (v : ℕ). if nat_le id p.top then Some (IdNotRising id) else refusal_of (find (λ (l : Literal). nat_lt v l.var) c) (rup (known_of kept.known) hints c)) vars
-    ∙ ap (λ (r : Option Refusal). if nat_le id p.top then Some (IdNotRising id) else refusal_of (find (λ (l : Literal). nat_lt F.vars l.var) c) r)
+    ap (λ (t : ℕ). refusal_at t kept.vars (known_of kept.known) id c hints) top
+    ∙ ap (λ (v : ℕ). refusal_at p.top v (known_of kept.known) id c hints) vars
+    ∙ ap (λ (r : Option Refusal).
+    if nat_le id p.top then Some (IdNotRising id) else refusal_of (find (λ (l : Literal). nat_lt F.vars l.var) c) r)
     (rup-agree (known_of kept.known) p.known known hints c)
 
 -- an addition by its refusal
@@ -197,7 +207,8 @@ stands_clause old new F c stands admits =
       vars = admits.vars ∙ stands.vars;
       top = admits.top ∙ sym (length_push F.clauses c);
       known = λ q. admits.known q
-          ∙ with_set-agree (known_of old.known) (start F).known (λ p. stands.known p ∙ ap (λ (r : Progress). r.known p) (sym first)) (length F.clauses + 1) c q
+          ∙ with_set-agree (known_of old.known) (start F).known
+          (λ p. stands.known p ∙ ap (λ (r : Progress). r.known p) (sym first)) (length F.clauses + 1) c q
           ∙ start_push F c q;
       units = marks.units;
       empty = marks.empty;
@@ -209,9 +220,10 @@ no_set c has = Contains-nil has.set has.member
 nothing_marked : (b : Bool) (c : Literals) → b ≡ false → IsTrue b ↔ HasSet [] c
 nothing_marked b c is = (λ marked. absurd (both_ways b is marked), λ has. absurd (no_set c has))
 
-pub stands_fresh : (kept : Kept) (vars : ℕ) → IsFresh vars kept → StandsFor kept (empty_formula vars) []
-stands_fresh kept vars fresh =
-    let F : Cnf = empty_formula vars in
+-- which variables are shown makes no difference
+pub stands_fresh : (kept : Kept) (of : Cnf) → IsFresh of.vars kept → StandsFor kept (record of { clauses = [] }) []
+stands_fresh kept of fresh =
+    let F : Cnf = record of { clauses = [] } in
     record {
       progress = start F;
       taken = checked-nil F;
@@ -222,7 +234,7 @@ stands_fresh kept vars fresh =
       empty = nothing_marked kept.empty [] fresh.empty;
     }
   where
-    nothing_known : (q : ℕ) → None ≡ (start (empty_formula vars)).known q
+    nothing_known : (q : ℕ) → None ≡ (start (record of { clauses = [] })).known q
     nothing_known q = elim (cases_eq q 0) [
       | inl none ↦ rw (eq-eqb q 0 none) refl
       | inr some ↦ rw (ne_eqb q 0 some) refl

@@ -1,5 +1,7 @@
 -- The table of false literals, by codes.
-use Rattle.std.proofs.Common.{◌≡◌, ◌≢◌, ℕ, ◌+◌, ◌*◌, ◌<◌, ◌≤◌, Bool, true, false, not, ◌||◌, if◌then◌else◌, List, [], ◌∷◌, ◌++◌, All, length, get_or, set, replicate, inl, inr, refl, sym, ap, ◌∙◌, subst, length-set, get_or-set_same, get_or-set_other, arith}
+use Rattle.std.proofs.Common.{◌≡◌, ◌≢◌, ℕ, ◌+◌, ◌*◌, ◌<◌, ◌≤◌, Bool, true, false, not, ◌||◌, if◌then◌else◌, List, [], ◌∷◌, ◌++◌, All}
+use Rattle.std.proofs.Common.{length, get_or, set, replicate, inl, inr, refl, sym, ap, ◌∙◌, subst, length-set, get_or-set_same}
+use Rattle.std.proofs.Common.{get_or-set_other, arith}
 use Rattle.std.specs.List.{list_any}
 use Rattle.std.proofs.lemmas.Bool.{cases_eq, cases_lt, both_ways, or_cases, or_right, false_from_ne_true, eqb-true}
 use Rattle.std.proofs.lemmas.List.{get_or-replicate, get_or_past, length-replicate, get_or_push, length_push}
@@ -7,7 +9,7 @@ use Rattle.std.proofs.lemmas.List.Elements.{All-nil, All-push, All-weaker}
 use Rattle.cnf_core.specs.Literals.{Literal, Literals, negated, code_of}
 use Rattle.lrat_lines.specs.Sets.{is_same, has}
 use Rattle.lrat_lines.proofs.LiteralSets.{is_same-true, is_same_of_equal}
-use Rattle.lrat_checker.specs.Assigned.{HasPlace, IsTable}
+use Rattle.lrat_checker.specs.Steps.Assigned.{HasPlace, IsTable}
 
 by_parts : (p q : Bool) (v w : ℕ) → 2 * v + (if p then 0 else 1) ≡ 2 * w + (if q then 0 else 1)
     → record { var = v; positive = p } ≡ (let l : Literal = record { var = w; positive = q } in l)
@@ -77,7 +79,8 @@ tells_more falses trues lit table place l = elim (cases_eq (code_of l) (code_of 
       let inside : code_of (negated lit) < length falses = code_in_place (length falses) (negated lit) place in
       ap (λ (i : ℕ). get_or (set falses (code_of (negated lit)) true) i false) same
       ∙ get_or-set_same falses (code_of (negated lit)) true false inside
-      ∙ sym (has-push trues lit (negated l) ∙ or_right (has trues (negated l)) (is_same (negated l) lit) (is_same_of_equal (negated l) lit is)))
+      ∙ sym (has-push trues lit (negated l)
+      ∙ or_right (has trues (negated l)) (is_same (negated l) lit) (is_same_of_equal (negated l) lit is)))
   | inr other ↦
       (let differs : is_same (negated l) lit ≡ false = false_from_ne_true (is_same (negated l) lit) (λ same.
       other (ap code_of (negated_back l lit (is_same-true (negated l) lit same)))) in

@@ -1,5 +1,7 @@
 -- Sets of one literal and of none.
-use Rattle.std.proofs.Common.{◌≡◌, ◌↔◌, ◌⊎◌, ℕ, ◌<◌, ◌≤◌, Bool, true, false, ◌||◌, if◌then◌else◌, IsTrue, List, [], ◌∷◌, ◌++◌, Option, Some, None, Contains, length, get_or, set, inl, inr, ⊎_elim, refl, sym, ap, ◌∙◌, subst, get_or-set_same, get_or-set_other}
+use Rattle.std.proofs.Common.{◌≡◌, ◌↔◌, ◌⊎◌, ℕ, ◌<◌, ◌≤◌, Bool, true, false, ◌||◌, if◌then◌else◌, IsTrue, List, [], ◌∷◌, ◌++◌, Option, Some}
+use Rattle.std.proofs.Common.{None, Contains, length, get_or, set, inl, inr, ⊎_elim, refl, sym, ap, ◌∙◌, subst, get_or-set_same}
+use Rattle.std.proofs.Common.{get_or-set_other}
 use Rattle.std.specs.List.{list_all}
 use Rattle.std.proofs.lemmas.Bool.{cases_eq, cases_Bool, or_right, false_from_ne_true, or_cases, or_left}
 use Rattle.std.proofs.lemmas.List.Elements.{Contains-push, Contains-push_cases, Contains-append_left}
@@ -7,7 +9,7 @@ use Rattle.cnf_core.specs.Literals.{Literal, Literals, code_of}
 use Rattle.cnf_core.proofs.Lists.{Contains-head, Contains-tail, Contains-cons_cases, Contains-nil, passes_of_list_all, list_all_of_members}
 use Rattle.lrat_lines.specs.Sets.{is_same, IsSameSet, HasSet}
 use Rattle.lrat_lines.proofs.LiteralSets.{is_same-true, is_same_of_equal}
-use Rattle.lrat_checker.specs.Units.{unit_of, is_just, is_unit, is_empty}
+use Rattle.lrat_checker.specs.Steps.Units.{unit_of, is_just, is_unit, is_empty}
 use Rattle.lrat_checker.proofs.TableLemmas.{code_of_injective, or_false}
 
 -- a mark at the code of a literal

@@ -1,5 +1,3 @@
-pub mod Assigned
-pub mod Units
 pub mod Refusals
 pub mod Checking
-pub mod Assumed
+pub mod Steps

@@ -15,11 +15,7 @@ IsRefusal (NotUnit id) given = given ≡ Some (why.NotUnit id)
 IsRefusal NoConflict given = given ≡ Some why.NoConflict
 IsRefusal Memory given = Unit {0}
 
--- nothing is refused, or it is this refusal
-abbrev pub Shows : Result (Unit {0}) Refused → Option Refusal → Type 0
-Shows (Ok done) given = given ≡ None
-Shows (Err refused) given = IsRefusal refused given
-
+-- why a result is none
 abbrev pub refusal_in : {A : Type 0} → Result A Refusal → Option Refusal
 refusal_in (Ok x) = None
 refusal_in (Err refusal) = Some refusal

@@ -2,7 +2,7 @@ ghost use Rattle.std.specs.Prelude.{◌≡◌, ℕ, ◌+◌, ◌*◌, ◌<◌, f
 ghost use Rattle.cnf_core.specs.Literals.{Literal, negated, code_of};
 ghost use Rattle.lrat_lines.specs.Sets.{has};
 ghost use Rattle.lrat_lines.specs.Propagation.{open_literals};
-ghost use Rattle.lrat_checker.specs.Assigned.{IsTable, opened};
+ghost use Rattle.lrat_checker.specs.Steps.Assigned.{IsTable, opened};
 ghost use Rattle.lrat_checker.specs.declared.assignment.Open.TheVariants.{Single};
 
 use cnf_core::{Lit, NoMemory};
@@ -32,7 +32,7 @@ pub struct Assignment {
 
 impl Model for Assignment {
     ghost use Rattle.std.specs.Prelude.{length};
-    ghost use Rattle.lrat_checker.specs.Assigned.{Assigned, assigned, IsTable};
+    ghost use Rattle.lrat_checker.specs.Steps.Assigned.{Assigned, assigned, IsTable};
 
     ghost Value = { Assigned };
 
@@ -42,7 +42,7 @@ impl Model for Assignment {
 }
 
 impl Assignment {
-    ghost use Rattle.lrat_checker.specs.Assigned.{assigned, HasPlace, open_of};
+    ghost use Rattle.lrat_checker.specs.Steps.Assigned.{assigned, HasPlace, open_of};
 
     /// No true literals, where codes are below this number.
     pub fn new(alloc: Global, codes: usize) -> Result<Assignment, NoMemory>

@@ -1,10 +1,12 @@
-ghost use Rattle.std.specs.Prelude.{◌≡◌, ◌↔◌, ◌^◌, ◌≤◌, ℕ, List, [], ◌∷◌, false, Some, IsTrue, OnOk, OnErr, IfOk, IfErr, IfNone, nat_lt, find, slice_index_or};
+ghost use Rattle.std.specs.Prelude.{◌≡◌, ◌↔◌, ◌^◌, ◌≤◌, ℕ, List, [], ◌∷◌, false, Some, IsTrue, OnOk, OnErr, IfOk, IfErr, IfNone, nat_lt};
+ghost use Rattle.std.specs.Prelude.{find, slice_index_or};
 ghost use Rattle.cnf_core.specs.Literals.{Literal, code_of, AreWithin};
 ghost use Rattle.cnf_core.specs.Formulas.{Cnf};
 ghost use Rattle.lrat_lines.specs.declared.line.Line.{Line};
 ghost use Rattle.lrat_lines.specs.Proofs.{unknown_of, without, IsReached};
-ghost use Rattle.lrat_checker.specs.Refusals.{IsRefusal, Shows};
-ghost use Rattle.lrat_checker.specs.Checking.{StandsFor, Answers, add_refusal, first_unknown, known_of, Admits, Adds, Deletes, Forgets, IsFresh};
+ghost use Rattle.lrat_checker.specs.Refusals.{IsRefusal};
+ghost use Rattle.lrat_checker.specs.Checking.{StandsFor, Answers, known_of};
+ghost use Rattle.lrat_checker.specs.Steps.Taking.{Shows, add_refusal, first_unknown, Admits, Adds, Deletes, Forgets, IsFresh};
 
 use crate::Refused;
 use crate::assignment::Assignment;
@@ -33,7 +35,8 @@ pub struct Checker {
 }
 
 impl Model for Checker {
-    ghost use Rattle.lrat_checker.specs.Checking.{Kept, IsSound};
+    ghost use Rattle.lrat_checker.specs.Checking.{Kept};
+    ghost use Rattle.lrat_checker.specs.Steps.Taking.{IsSound};
 
     ghost Value = { Kept };
 
@@ -55,7 +58,7 @@ impl Checker {
     {
         let mut checker = Checker::without_clauses(alloc, formula.vars())?;
         for (i, clause) in formula.clauses().iter().enumerate() {
-            checker.admit(i as u64 + 1, &clause.lits)?;
+            checker.admit(i as u64 + 1, clause.as_slice())?;
         }
         Ok(checker)
     }
@@ -68,8 +71,8 @@ impl Checker {
         ensures unchanged { OnErr result (self.new ≡ self.old) }
     {
         match line {
-            Line::Add { id, clause, hints } => self.add(*id, &clause.lits, &hints.ids),
-            Line::Delete { ids, .. } => self.delete(&ids.ids),
+            Line::Add { id, lits, hints } => self.add(*id, lits.as_slice(), hints.as_slice()),
+            Line::Delete { ids, .. } => self.delete(ids.as_slice()),
         }
     }
 

@@ -2,10 +2,10 @@ ghost use Rattle.std.specs.Prelude.{◌≡◌, ℕ, Some, All, IfOk};
 ghost use Rattle.cnf_core.specs.Literals.{Literals, negated};
 ghost use Rattle.lrat_lines.specs.Sets.{has_complements};
 ghost use Rattle.lrat_lines.specs.Propagation.{by_hints, rup};
-ghost use Rattle.lrat_checker.specs.Assigned.{HasPlace};
-ghost use Rattle.lrat_checker.specs.Refusals.{Shows};
-ghost use Rattle.lrat_checker.specs.Checking.{known_of, ArePlaced};
-ghost use Rattle.lrat_checker.specs.Assumed.{Assumes};
+ghost use Rattle.lrat_checker.specs.Steps.Assigned.{HasPlace};
+ghost use Rattle.lrat_checker.specs.Checking.{known_of};
+ghost use Rattle.lrat_checker.specs.Steps.Taking.{Shows, ArePlaced};
+ghost use Rattle.lrat_checker.specs.Steps.Assumed.{Assumes};
 
 use crate::Refused;
 use crate::assignment::{Assignment, Open};
@@ -57,7 +57,7 @@ fn follow(known: &Known, assignment: &mut Assignment, hints: &[u64]) -> Result<(
         let Some(clause) = known.get(*hint) else {
             return Err(Refused::UnknownHint(*hint));
         };
-        match assignment.open_literals(&clause.lits) {
+        match assignment.open_literals(clause.as_slice()) {
             Open::Never => return Ok(()),
             Open::Single(lit) => assignment.make_true(lit)?,
             Open::Several => return Err(Refused::NotUnit(*hint)),

@@ -2,8 +2,8 @@ ghost use Rattle.std.specs.Prelude.{◌≡◌, ◌||◌, false, length, All, sli
 ghost use Rattle.std.specs.List.{list_all};
 ghost use Rattle.cnf_core.specs.Literals.{Literal, code_of};
 ghost use Rattle.lrat_lines.specs.Sets.{is_same};
-ghost use Rattle.lrat_checker.specs.Units.{unit_of, is_unit, is_empty};
-ghost use Rattle.lrat_checker.specs.Assigned.{HasPlace};
+ghost use Rattle.lrat_checker.specs.Steps.Units.{unit_of, is_unit, is_empty};
+ghost use Rattle.lrat_checker.specs.Steps.Assigned.{HasPlace};
 
 use cnf_core::Lit;
 

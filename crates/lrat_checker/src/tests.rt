@@ -3,7 +3,7 @@
 ghost use Rattle.std.specs.Prelude.{◌<◌};
 
 use crate::{Checker, Refused};
-use cnf_core::{Clause, Formula, Lit, NoMemory};
+use cnf_core::{Formula, Lit};
 use lrat_lines::read_line;
 use std::alloc::Global;
 use std::test::Fail;
@@ -17,23 +17,6 @@ use plain::PlainProof;
 /// What threads may share, as each type of this crate.
 fn shared<T: Send + Sync>(value: &T) -> &T {
     value
-}
-
-/// The formula over these variables with these clauses.
-fn formula_of(alloc: Global, vars: u32, clauses: &[&[i32]]) -> Result<Formula, NoMemory> {
-    let mut formula = Formula::new(alloc, vars.min(9));
-    for numbers in clauses {
-        let mut lits = Vec::new(alloc);
-        for number in *numbers {
-            if let Some(lit) = Lit::of(*number) {
-                lits.push(lit)?;
-            }
-        }
-        if formula.room(&lits) {
-            formula.push(Clause { lits })?;
-        }
-    }
-    Ok(formula)
 }
 
 /// The answer to the last of the lines of a text.
@@ -52,7 +35,7 @@ fn last_answer(
 #[test]
 fn lines_over_an_implied_literal_are_taken_or_refused(rt: HostRuntime) -> Result<(), Fail> {
     let alloc = rt.alloc();
-    let formula = formula_of(alloc, 2, &[&[1, 2], &[1, -2]])?;
+    let formula = Formula::of_numbers(alloc, 2, &[1, 2, 0, 1, -2, 0])?;
     for (text, answer, unit) in [
         (b"3 1 0 1 2 0".as_slice(), Ok(()), true),
         (b"3 1 0 1 0", Err(Refused::NoConflict), false),
@@ -93,13 +76,13 @@ fn lines_over_an_implied_literal_are_taken_or_refused(rt: HostRuntime) -> Result
 #[test]
 fn the_empty_clause_is_reached_as_an_input_or_by_a_line(rt: HostRuntime) -> Result<(), Fail> {
     let alloc = rt.alloc();
-    let empty = formula_of(alloc, 1, &[&[]])?;
+    let empty = Formula::of_numbers(alloc, 1, &[0])?;
     let mut checker = Checker::new(alloc, &empty)?;
     assert!(rt; checker.has_empty());
     assert_eq!(rt; last_answer(alloc, &mut checker, b"2 0 1 0")?, Ok(()));
     assert!(rt; checker.has_empty());
 
-    let opposite = formula_of(alloc, 1, &[&[1], &[-1]])?;
+    let opposite = Formula::of_numbers(alloc, 1, &[1, 0, -1, 0])?;
     let mut checker = Checker::new(alloc, &opposite)?;
     assert!(rt; checker.has_unit(Lit::new(1, true)));
     assert!(rt; checker.has_unit(Lit::new(1, false)));

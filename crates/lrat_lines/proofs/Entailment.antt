@@ -1,19 +1,22 @@
 -- What is shown from entailed sets is entailed, and so is every clause that a proof reaches.
-use Rattle.std.proofs.Common.{◌≡◌, ℕ, zero, suc, ◌-◌, ◌==◌, Bool, true, false, not, if◌then◌else◌, IsTrue, List, [], ◌∷◌, ◌++◌, Option, Some, None, Result, Ok, Err, IsOk, Contains, map, refl, sym, ap, ◌∙◌, subst, inl, inr, ⊎_elim}
+use Rattle.std.proofs.Common.{◌≡◌, ℕ, zero, suc, ◌-◌, ◌==◌, Bool, true, false, not, if◌then◌else◌, IsTrue, List, [], ◌∷◌, ◌++◌, Option}
+use Rattle.std.proofs.Common.{Some, None, Result, Ok, Err, IsOk, Contains, map, refl, sym, ap, ◌∙◌, subst, inl, inr, ⊎_elim}
 use Rattle.std.specs.Prelude.{find, flat_map, is_none, nat_lt, nat_le, slice_get}
 use Rattle.std.specs.List.{list_any, list_all}
 use Rattle.std.proofs.lemmas.Bool.{both_ways, cases_Bool, true_from_ne_false, or_parts, not-true, not_from_false}
 use Rattle.std.proofs.lemmas.List.Elements.{Contains-append_cases, Contains-push_cases}
 use Rattle.cnf_core.specs.Literals.{Literal, Literals, Assignment, negated, is_true, clause_true}
 use Rattle.cnf_core.specs.Formulas.{Cnf, EntailsClause}
-use Rattle.cnf_core.proofs.Lists.{Contains-head, Contains-tail, Contains-cons_cases, Contains-nil, Contains-filter, passes_of_list_all, member_of_list_any, list_any_of_member}
+use Rattle.cnf_core.proofs.Lists.{Contains-head, Contains-tail, Contains-cons_cases, Contains-nil, Contains-filter, passes_of_list_all}
+use Rattle.cnf_core.proofs.Lists.{member_of_list_any, list_any_of_member}
 use Rattle.cnf_core.proofs.Truth.{is_true-negated}
 use Rattle.cnf_core.proofs.Models.{entails_clause_by, entails_clause_at}
 use Rattle.lrat_lines.specs.declared.line.Line.{Line}
 use Rattle.lrat_lines.specs.declared.line.Line.TheVariants.{Add, Delete}
 use Rattle.lrat_lines.specs.Sets.{is_same, has, has_complements}
 use Rattle.lrat_lines.specs.Propagation.{Known, Refusal, IdNotRising, NotUnit, open_literals, by_open, by_set, by_hints, IsRup}
-use Rattle.lrat_lines.specs.Proofs.{Progress, start, with_set, without, unless_refused, refusal_of, unknown_of, after_line, after_lines, checked, Proves, added, IsReached}
+use Rattle.lrat_lines.specs.Proofs.{Progress, start, with_set, without, unless_refused, refusal_of, unknown_of, after_line, after_lines}
+use Rattle.lrat_lines.specs.Proofs.{checked, Proves, added, IsReached}
 use Rattle.lrat_lines.specs.Laws.{AreEntailed, ProvedIsEntailed}
 use Rattle.lrat_lines.proofs.LiteralSets.{is_same-true, Contains_of_has}
 

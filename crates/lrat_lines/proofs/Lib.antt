@@ -1,9 +1,9 @@
 pub mod LiteralSets
+pub mod SameSets
 pub mod Tightness
 pub mod Entailment
 pub mod Progressing
 mod GapLemmas
-mod Pieces
 mod Fronts
 mod TextLines
 pub mod ReadsBack

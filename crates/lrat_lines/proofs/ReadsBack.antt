@@ -1,5 +1,6 @@
 -- A printed line is read as that line.
-use Rattle.std.proofs.Common.{◌≡◌, ℕ, zero, suc, ◌^◌, ◌<◌, ◌≤◌, ◌==◌, Bool, true, false, List, [], ◌∷◌, ◌++◌, length, Option, Some, None, Ok, Result, All, inl, inr, refl, sym, ap, ◌∙◌, append_assoc, arith}
+use Rattle.std.proofs.Common.{◌≡◌, ℕ, zero, suc, ◌^◌, ◌<◌, ◌≤◌, ◌==◌, Bool, true, false, List, [], ◌∷◌, ◌++◌, length, Option, Some, None}
+use Rattle.std.proofs.Common.{Ok, Result, All, inl, inr, refl, sym, ap, ◌∙◌, append_assoc, arith}
 use Rattle.std.specs.Prelude.{decimal, codes, flat_map, filter, bytes_eq}
 use Rattle.std.specs.Int.{IsInRange}
 use Rattle.std.specs.Str.Parse.{AllDigits}
@@ -14,7 +15,8 @@ use Rattle.cnf_core.proofs.Numerals.{number_of_digits-decimal}
 use Rattle.lrat_lines.specs.declared.line.Line.TheVariants.{Add, Delete}
 use Rattle.lrat_lines.specs.declared.line.LineEnd.{LineEnd}
 use Rattle.lrat_lines.specs.Tokens.{is_gap, before_gap, behind_gaps, is_filled, tokens}
-use Rattle.lrat_lines.specs.Grammar.{◌>>=◌, id_from, id_item, hint_item, literal_from, literal_item, Listed, listed, listed_by, with_element, own_id, ended, addition, deletion, behind_id, line_of_tokens, line_of}
+use Rattle.lrat_lines.specs.Grammar.{◌>>=◌, id_from, id_item, hint_item, literal_from, literal_item, Listed, listed, listed_by}
+use Rattle.lrat_lines.specs.Grammar.{with_element, own_id, ended, addition, deletion, behind_id, line_of_tokens, line_of}
 use Rattle.lrat_lines.specs.Printed.{number_bytes, literal_bytes, numbers_bytes, literals_bytes, IsId, IsWide}
 use Rattle.lrat_lines.specs.Laws.{PrintedReadsBack}
 
@@ -60,7 +62,8 @@ tokens-last w word some =
 -- printed numbers
 
 no_gap : (b : ℕ) → 45 ≤ b → b ≤ 57 → is_gap b ≡ false
-no_gap b low high = rw (ne_eqb b 32 (λ e. omega arith), ne_eqb b 9 (λ e. omega arith), ne_eqb b 13 (λ e. omega arith), ne_eqb b 10 (λ e. omega arith))
+no_gap b low high =
+    rw (ne_eqb b 32 (λ e. omega arith), ne_eqb b 9 (λ e. omega arith), ne_eqb b 13 (λ e. omega arith), ne_eqb b 10 (λ e. omega arith))
 
 digits_are_word : (ds : List ℕ) → AllDigits 10 ds → IsWord ds
 digits_are_word [] digits = tt

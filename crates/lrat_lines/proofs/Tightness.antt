@@ -1,9 +1,11 @@
 -- When a hint shows a clause, when it adds a literal, and what tight hints give.
-use Rattle.std.proofs.Common.{◌≡◌, ◌≢◌, ◌⊎◌, ℕ, true, not, List, [], ◌∷◌, ◌++◌, Option, Some, None, Contains, map, inl, inr, refl, sym, ap, ◌∙◌, subst, ⊎_elim}
+use Rattle.std.proofs.Common.{◌≡◌, ◌≢◌, ◌⊎◌, ℕ, true, not, List, [], ◌∷◌, ◌++◌, Option, Some, None, Contains, map, inl, inr, refl, sym, ap}
+use Rattle.std.proofs.Common.{◌∙◌, subst, ⊎_elim}
 use Rattle.std.specs.List.{list_all}
 use Rattle.std.proofs.lemmas.Bool.{cases_Bool, both_ways, not-true}
 use Rattle.cnf_core.specs.Literals.{Literal, Literals, negated}
-use Rattle.cnf_core.proofs.Lists.{Contains-head, Contains-tail, Contains-cons_cases, Contains-nil, nil_without_members, Contains-filter, kept_of_Contains-filter, list_all_of_members}
+use Rattle.cnf_core.proofs.Lists.{Contains-head, Contains-tail, Contains-cons_cases, Contains-nil, nil_without_members, Contains-filter}
+use Rattle.cnf_core.proofs.Lists.{kept_of_Contains-filter, list_all_of_members}
 use Rattle.lrat_lines.specs.Sets.{is_same, has, has_complements}
 use Rattle.lrat_lines.specs.Propagation.{Known, Refusal, open_literals, by_open, by_set, by_hints, IsRup}
 use Rattle.lrat_lines.specs.Tight.{IsKnown, ShowsAt, AddsAt, IsTightFrom, IsTight}

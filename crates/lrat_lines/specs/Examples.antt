@@ -1,7 +1,7 @@
 -- Proofs over a small formula, worked by the definitions: 1 or 2; 1 or -2, over two variables. And lines, read.
 use Rattle.std.specs.Prelude.{◌≡◌, ℕ, true, false, List, [], ◌∷◌, Err, Ok, codes}
 use Rattle.cnf_core.specs.Literals.{Literal}
-use Rattle.cnf_core.specs.Formulas.{Cnf}
+use Rattle.cnf_core.specs.Formulas.{Cnf, empty_formula}
 use Rattle.lrat_lines.specs.declared.line.Line.{Line}
 use Rattle.lrat_lines.specs.declared.line.Line.TheVariants.{Add, Delete}
 use Rattle.lrat_lines.specs.declared.line.LineEnd.TheVariants.{BadToken, NotEnded, NegativeHint}
@@ -16,8 +16,7 @@ abbrev pub negative : ℕ → Literal
 negative v = record { var = v; positive = false }
 
 abbrev pub implied_one : Cnf
-implied_one = record {
-  vars = 2;
+implied_one = record (empty_formula 2) {
   clauses = (positive 1 ∷ positive 2 ∷ []) ∷ (positive 1 ∷ negative 2 ∷ []) ∷ [];
 }
 

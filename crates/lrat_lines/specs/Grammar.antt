@@ -1,11 +1,12 @@
 -- What the text of a line means: a line of a proof, or why it is none.
-use Rattle.std.specs.Prelude.{ℕ, zero, suc, ◌^◌, ◌==◌, nat_lt, nat_le, Bool, true, false, if◌then◌else◌, List, [], ◌∷◌, Option, Some, None, Result, Ok, Err, bytes_eq, codes}
+use Rattle.std.specs.Prelude.{◌≡◌, ℕ, zero, suc, ◌^◌, ◌==◌, nat_lt, nat_le, Bool, true, false, if◌then◌else◌, List, [], ◌∷◌}
+use Rattle.std.specs.Prelude.{Option, Some, None, Result, Ok, Err, bytes_eq, codes}
 use Rattle.cnf_core.specs.Literals.{Literal}
 use Rattle.cnf_core.specs.Spelling.{number_of_digits}
 use Rattle.lrat_lines.specs.declared.line.Line.{Line}
 use Rattle.lrat_lines.specs.declared.line.Line.TheVariants.{Add, Delete}
 use Rattle.lrat_lines.specs.declared.line.LineEnd.{LineEnd}
-use Rattle.lrat_lines.specs.declared.line.LineEnd.TheVariants.{BadToken, NotEnded, NegativeHint}
+use Rattle.lrat_lines.specs.declared.line.LineEnd.TheVariants.{BadToken, NotEnded, NegativeHint, Memory}
 use Rattle.lrat_lines.specs.Tokens.{tokens}
 
 -- the next step, unless there is no line
@@ -97,3 +98,11 @@ line_of_tokens (t ∷ ts) = id_item t >>= own_id >>= behind_id ts
 -- the line that a text without its line feed means, or why it means none
 unfoldable pub line_of : List ℕ → Result Line LineEnd
 line_of text = line_of_tokens (tokens text)
+
+-- the result is what is given, or want of memory
+abbrev pub Gives : {A : Type 0} → Result A LineEnd → Result A LineEnd → Type 0
+Gives (Ok x) given = given ≡ Ok x
+Gives (Err BadToken) given = given ≡ Err BadToken
+Gives (Err NotEnded) given = given ≡ Err NotEnded
+Gives (Err NegativeHint) given = given ≡ Err NegativeHint
+Gives (Err Memory) given = Unit {0}

@@ -3,7 +3,8 @@ use Rattle.std.specs.Prelude.{◌≡◌, ℕ, List, Some, Ok}
 use Rattle.cnf_core.specs.Literals.{Literals}
 use Rattle.cnf_core.specs.Formulas.{Cnf, EntailsClause}
 use Rattle.lrat_lines.specs.declared.line.Line.{Line}
-use Rattle.lrat_lines.specs.Propagation.{Known, IsRup}
+use Rattle.lrat_lines.specs.Sets.{IsSameSet}
+use Rattle.lrat_lines.specs.Propagation.{Known, AreSameKnown, rup, IsRup}
 use Rattle.lrat_lines.specs.Proofs.{Proves, IsReached}
 use Rattle.lrat_lines.specs.Grammar.{line_of}
 use Rattle.lrat_lines.specs.Printed.{IsPrintable, IsInMemory, line_bytes}
@@ -18,6 +19,12 @@ pub record ProvedIsEntailed : Type 0 where
       → AreEntailed F known → IsRup known hints c → EntailsClause F c
   pub reached : (F : Cnf) (lines : List Line) (c : Literals)
       → Proves F lines → IsReached F lines c → EntailsClause F c
+
+-- reverse unit propagation looks at clauses as sets: where the clause has the same literals, and so has each
+-- one that is known, it has the same outcome
+abbrev pub PropagatesBySets : Type 0
+PropagatesBySets = (known other : Known) (hints : List ℕ) (c d : Literals)
+    → AreSameKnown known other → IsSameSet c d → rup known hints c ≡ rup other hints d
 
 -- a printed line, without its line feed, is read as the line that it is
 abbrev pub PrintedReadsBack : Type 0

@@ -9,4 +9,3 @@ pub mod Grammar
 pub mod Printed
 pub mod Steps
 pub mod Writings
-pub mod Gaps

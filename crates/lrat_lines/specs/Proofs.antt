@@ -1,5 +1,6 @@
 -- Proofs over a formula: which lines they may have, and which clauses they reach.
-use Rattle.std.specs.Prelude.{ℕ, ◌-◌, ◌==◌, nat_lt, nat_le, if◌then◌else◌, List, [], ◌∷◌, ◌++◌, length, find, flat_map, Option, Some, None, is_none, Result, Ok, Err, IsOk, slice_get}
+use Rattle.std.specs.Prelude.{ℕ, ◌-◌, ◌==◌, nat_lt, nat_le, if◌then◌else◌, List, [], ◌∷◌, ◌++◌, length, find, flat_map, Option, Some, None}
+use Rattle.std.specs.Prelude.{is_none, Result, Ok, Err, IsOk, slice_get}
 use Rattle.std.specs.List.{list_any}
 use Rattle.cnf_core.specs.Literals.{Literal, Literals}
 use Rattle.cnf_core.specs.Formulas.{Cnf}

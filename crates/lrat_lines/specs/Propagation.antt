@@ -1,12 +1,23 @@
 -- Reverse unit propagation with hints: why a clause follows from clauses that are known by their ids.
-use Rattle.std.specs.Prelude.{◌≡◌, ℕ, not, if◌then◌else◌, List, [], ◌∷◌, ◌++◌, map, filter, Option, Some, None}
+use Rattle.std.specs.Prelude.{◌≡◌, ℕ, not, if◌then◌else◌, List, [], ◌∷◌, ◌++◌, map, filter, Option, Some, None, ⊤}
 use Rattle.std.specs.List.{list_all}
 use Rattle.cnf_core.specs.Literals.{Literal, Literals, negated}
-use Rattle.lrat_lines.specs.Sets.{is_same, has, has_complements}
+use Rattle.lrat_lines.specs.Sets.{is_same, has, has_complements, IsSameSet}
 
 -- the sets that are known, each by its id
 abbrev pub Known : Type 0
 Known = ℕ → Option Literals
+
+-- the same is known: a set of the same members, or nothing
+abbrev pub IsSameKnown : Option Literals → Option Literals → Type 0
+IsSameKnown None None = ⊤
+IsSameKnown None (Some d) = ⊥
+IsSameKnown (Some c) None = ⊥
+IsSameKnown (Some c) (Some d) = IsSameSet c d
+
+-- by each id the same is known
+abbrev pub AreSameKnown : Known → Known → Type 0
+AreSameKnown known other = (id : ℕ) → IsSameKnown (known id) (other id)
 
 -- why a line is refused
 pub data Refusal : Type 0 where

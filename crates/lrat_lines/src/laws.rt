@@ -1,11 +1,17 @@
 //! What holds of every proof by the definitions alone. The functions do nothing: each one's contract
 //! is the law.
 ghost use Rattle.lrat_lines.specs.Examples.{ProofsAreWorked, LinesAreWorked};
-ghost use Rattle.lrat_lines.specs.Laws.{ProvedIsEntailed, PrintedReadsBack};
+ghost use Rattle.lrat_lines.specs.Laws.{ProvedIsEntailed, PropagatesBySets, PrintedReadsBack};
 
 /// What hints show from entailed sets is entailed, and so is every clause that a proof reaches.
 pub fn proved_clause_is_entailed()
     ensures { ProvedIsEntailed }
+{}
+
+/// Reverse unit propagation looks at clauses as sets: neither the order nor the number of a clause's literals
+/// makes a difference to its outcome, be it the one to be shown or one that is known by a hint.
+pub fn propagation_looks_at_sets()
+    ensures { PropagatesBySets }
 {}
 
 /// A printed line, without its line feed, is read as that line.

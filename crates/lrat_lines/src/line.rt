@@ -1,12 +1,14 @@
-ghost use Rattle.std.specs.Prelude.{◌≡◌};
+ghost use Rattle.std.specs.Prelude.{◌≡◌, ◌<◌, ◌^◌, ◌↔◌, ℕ, [], IsTrue, length};
+ghost use Rattle.std.specs.Slice.Iter.{iter_rest, iter_steps};
+ghost use Rattle.std.specs.Iterator.Runs.{EveryRun, ItemsMapTo};
 ghost use Rattle.lrat_lines.specs.declared.line.LineEnd.TheVariants.{Memory};
 
 use cnf_core::Clause;
 use std::alloc::AllocFailed;
 use std::error::Error;
-use std::fmt;
 use std::fmt::{Display, Formatter};
 use std::marker::Model;
+use std::{fmt, slice};
 
 /// Numbers of clauses, in order.
 #[derive(Debug, Drop)]
@@ -22,12 +24,48 @@ impl Model for Ids {
     ghost view = { λ i. i.ids.items };
 }
 
+impl Ids {
+    /// How many there are.
+    pub fn len(&self) -> usize
+        ensures { result ≡ length self.now }
+    {
+        self.ids.len()
+    }
+
+    /// Whether there are none.
+    pub fn is_empty(&self) -> bool
+        ensures { IsTrue result ↔ (self.now ≡ []) }
+    {
+        self.ids.is_empty()
+    }
+
+    /// The numbers, in order.
+    pub fn as_slice(&self) -> &[u64]
+        ensures { result.now ≡ self.now }
+    {
+        &self.ids
+    }
+}
+
+impl<'a> IntoIterator for &'a Ids {
+    type Item = &'a u64;
+
+    type IntoIter = slice::Iter<'a, u64>;
+
+    ghost into_iter_gives = { λ ids it. (iter_rest it ≡ ids.now) × (length (iter_rest it) < 2 ^ 64)
+        × EveryRun (iter_steps {A = ℕ}) (λ p. ItemsMapTo p (λ y. y.now) (iter_rest p.from)) };
+
+    fn into_iter(self) -> slice::Iter<'a, u64> {
+        self.ids.iter()
+    }
+}
+
 /// A line of a proof. Clauses are called by their numbers, their ids.
 #[derive(Debug, Drop)]
 pub enum Line {
     /// A clause is added under an id. The clauses of the hints show, one after another, that it
     /// follows.
-    Add { id: u64, clause: Clause, hints: Ids },
+    Add { id: u64, lits: Clause, hints: Ids },
     /// Clauses are no longer used. The line's own id has no effect.
     Delete { id: u64, ids: Ids },
 }

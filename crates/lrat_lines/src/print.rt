@@ -36,15 +36,15 @@ fn push_line_bytes(line: &Line, out: &mut Vec<u8>) -> Result<(), NoMemory>
     ensures front { OnErr result (take (length out.old.items) out.new.items ≡ out.old.items) }
 {
     match line {
-        Line::Add { id, clause, hints } => {
+        Line::Add { id, lits, hints } => {
             push_number(*id, out)?;
-            push_literals(&clause.lits, out)?;
-            push_numbers(&hints.ids, out)
+            push_literals(lits.as_slice(), out)?;
+            push_numbers(hints.as_slice(), out)
         }
         Line::Delete { id, ids } => {
             push_number(*id, out)?;
             push_bytes(b"d ", out)?;
-            push_numbers(&ids.ids, out)
+            push_numbers(ids.as_slice(), out)
         }
     }
 }

@@ -1,6 +1,7 @@
 ghost use Rattle.std.specs.Prelude.{◌≡◌, Err, IfOk, IfErr};
-ghost use Rattle.lrat_lines.specs.Grammar.{literal_item, listed, ended, deletion, addition, behind_id, line_of_tokens, line_of};
-ghost use Rattle.lrat_lines.specs.Steps.{Gives, listing, place_item};
+ghost use Rattle.lrat_lines.specs.Grammar.{Gives, literal_item, listed, ended, deletion, addition};
+ghost use Rattle.lrat_lines.specs.Grammar.{behind_id, line_of_tokens, line_of};
+ghost use Rattle.lrat_lines.specs.Steps.Reading.{listing, place_item};
 
 use crate::token::{IdPlace, Tokens, id_item, literal_item, place_item};
 use crate::{Ids, Line, LineEnd};
@@ -54,9 +55,9 @@ fn read_deletion(alloc: Global, id: u64, tokens: &mut Tokens) -> Result<Line, Li
 fn read_addition(alloc: Global, id: u64, tokens: &mut Tokens) -> Result<Line, LineEnd>
     ensures { Gives result (addition id tokens.old) }
 {
-    let clause = read_literals(alloc, tokens)?;
+    let lits = read_literals(alloc, tokens)?;
     let hints = read_ids(alloc, IdPlace::Hint, tokens)?;
-    ended(Line::Add { id, clause, hints }, tokens)
+    ended(Line::Add { id, lits, hints }, tokens)
 }
 
 /// The line, if no token is left.

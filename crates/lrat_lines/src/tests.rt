@@ -20,10 +20,10 @@ fn shared<T: Send + Sync>(value: &T) -> &T {
 fn numbers(alloc: Global, line: &Line) -> Result<Vec<i64>, AllocError> {
     let mut all = Vec::new(alloc);
     match line {
-        Line::Add { id, clause, hints } => {
+        Line::Add { id, lits, hints } => {
             all.push(id.cast_signed())?;
             all.push(0)?;
-            for lit in &clause.lits {
+            for lit in lits {
                 all.push(i64::from(lit.number()))?;
             }
             push_ids(&mut all, hints)?;
@@ -39,7 +39,7 @@ fn numbers(alloc: Global, line: &Line) -> Result<Vec<i64>, AllocError> {
 
 fn push_ids(all: &mut Vec<i64>, ids: &Ids) -> Result<(), AllocError> {
     all.push(0)?;
-    for id in &ids.ids {
+    for id in ids {
         all.push(id.cast_signed())?;
     }
     Ok(())
@@ -113,8 +113,8 @@ fn is_printable(line: &Line) -> bool
     ensures { IsTrue result → IsPrintable line.now }
 {
     match line {
-        Line::Add { id, hints, .. } => *id > 0 && are_ids(&hints.ids),
-        Line::Delete { id, ids } => *id > 0 && are_ids(&ids.ids),
+        Line::Add { id, hints, .. } => *id > 0 && are_ids(hints.as_slice()),
+        Line::Delete { id, ids } => *id > 0 && are_ids(ids.as_slice()),
     }
 }
 

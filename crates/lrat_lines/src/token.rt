@@ -1,9 +1,10 @@
-ghost use Rattle.std.specs.Prelude.{◌≡◌, ◌<◌, ◌≤◌, ◌^◌, ◌*◌, ◌+◌, [], ◌∷◌, ℕ, false, if◌then◌else◌, length, take, drop, filter, option_map, IfSome, IfNone, bytes_eq};
+ghost use Rattle.std.specs.Prelude.{◌≡◌, ◌<◌, ◌≤◌, ◌^◌, ◌*◌, ◌+◌, [], ◌∷◌, ℕ, false, if◌then◌else◌, length, take, drop, filter, option_map};
+ghost use Rattle.std.specs.Prelude.{IfSome, IfNone, bytes_eq};
 ghost use Rattle.lrat_lines.specs.Tokens.{is_gap, before_gap, behind_gaps, is_filled, tokens};
 ghost use Rattle.cnf_core.specs.Spelling.{number_of_digits};
 ghost use Rattle.lrat_lines.specs.Grammar.{id_item, literal_item};
-ghost use Rattle.lrat_lines.specs.Steps.{fitting, id_fitted, negative_fitted, literal_fitted, place_item, begins_with};
-ghost use Rattle.lrat_lines.specs.Gaps.{BeginsPlain};
+ghost use Rattle.lrat_lines.specs.Steps.Reading.{fitting, id_fitted, negative_fitted, literal_fitted, place_item, begins_with};
+ghost use Rattle.lrat_lines.specs.Steps.Gaps.{BeginsPlain};
 
 use crate::LineEnd;
 use cnf_core::{Lit, MAX_VARS};

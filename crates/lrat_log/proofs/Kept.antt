@@ -9,7 +9,8 @@ use Rattle.cnf_core.specs.Literals.{Literals}
 use Rattle.cnf_core.proofs.Lists.{list_any_of_member, member_of_list_any}
 use Rattle.lrat_log.specs.declared.kind.Kind.{Kind}
 use Rattle.lrat_log.specs.Entries.{Entry, Recorded, is_learnt, next_entry, with_entry, is_learnt_entry}
-use Rattle.lrat_log.specs.Kept.{IsNext, IsCounted}
+use Rattle.lrat_log.specs.Kept.{IsNext}
+use Rattle.lrat_log.specs.Steps.Counted.{IsCounted}
 use Rattle.lrat_log.proofs.Prefixes.{each_after_push}
 
 pub counted_push : (L : Recorded) (used : Bool) (learnt : ℕ) (kind : Kind) (c : Literals) (hints : List ℕ) (clock n : ℕ)

@@ -6,7 +6,7 @@ use Rattle.std.proofs.lemmas.List.Elements.{All-head, All-tail, All-weaker, All-
 use Rattle.std.proofs.lemmas.Slice.{between_is}
 use Rattle.cnf_core.specs.Literals.{Literals}
 use Rattle.lrat_log.specs.Entries.{Entry}
-use Rattle.lrat_log.specs.Layout.{IsPart, IsLaid, laid_entry, laid_entries, AreLaid}
+use Rattle.lrat_log.specs.Steps.Layout.{IsPart, IsLaid, laid_entry, laid_entries, AreLaid}
 use Rattle.lrat_log.specs.declared.log.Line.{Line}
 use Rattle.lrat_log.specs.declared.log.Span.{Span}
 

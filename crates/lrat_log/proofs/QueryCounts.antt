@@ -1,9 +1,11 @@
 -- How many clauses were learnt, by the queries that they were learnt in.
-use Rattle.std.proofs.Common.{◌≡◌, ℕ, ◌+◌, ◌*◌, ◌≤◌, ◌==◌, true, false, eqb, cond, List, [], ◌∷◌, length, get_or, Contains, map, filter, refl, sym, ap, subst, inl, inr, ⊎_elim, arith}
+use Rattle.std.proofs.Common.{◌≡◌, ℕ, ◌+◌, ◌*◌, ◌≤◌, ◌==◌, true, false, eqb, cond, List, [], ◌∷◌, length, get_or, Contains, map, filter}
+use Rattle.std.proofs.Common.{refl, sym, ap, subst, inl, inr, ⊎_elim, arith}
 use Rattle.std.specs.Prelude.{All, count_by, sum_by}
 use Rattle.std.specs.List.{IsDistinct}
 use Rattle.std.specs.Set.{unique_keys, distinct_count, is_member}
-use Rattle.std.proofs.lemmas.Bool.{cases_Bool, both_ways, false_from_ne_true, and_from, and_left, and_right, cond-true, cond-false, eq-eqb, eqb-true}
+use Rattle.std.proofs.lemmas.Bool.{cases_Bool, both_ways, false_from_ne_true, and_from, and_left, and_right, cond-true, cond-false, eq-eqb}
+use Rattle.std.proofs.lemmas.Bool.{eqb-true}
 use Rattle.std.proofs.lemmas.List.{length-map}
 use Rattle.std.proofs.lemmas.List.Elements.{All-from_get_or, All-map, All-filter, All-contains, recursion_from_All, Contains-get_or}
 use Rattle.std.proofs.lemmas.Map.Steps.{length-le_from_distinct_below}

@@ -2,7 +2,7 @@
 -- variables. It has no model.
 use Rattle.std.specs.Prelude.{ℕ, List, [], ◌∷◌}
 use Rattle.cnf_core.specs.Literals.{Literals}
-use Rattle.cnf_core.specs.Formulas.{Cnf, Entails}
+use Rattle.cnf_core.specs.Formulas.{Cnf, empty_formula, Entails}
 use Rattle.lrat_lines.specs.Examples.{positive, negative}
 use Rattle.lrat_lines.specs.Tight.{IsTight}
 use Rattle.lrat_log.specs.declared.kind.Kind.TheVariants.{Learnt, Unit as UnitKind, Core, Empty}
@@ -11,8 +11,7 @@ use Rattle.lrat_log.specs.Fresh.{IsFresh}
 use Rattle.lrat_log.specs.Kept.{IsShown}
 
 abbrev pub refuted : Cnf
-refuted = record {
-  vars = 3;
+refuted = record (empty_formula 3) {
   clauses = (positive 1 ∷ positive 2 ∷ []) ∷ (positive 1 ∷ negative 2 ∷ [])
       ∷ (negative 1 ∷ positive 3 ∷ []) ∷ (negative 1 ∷ negative 3 ∷ []) ∷ [];
 }

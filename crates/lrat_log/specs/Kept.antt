@@ -1,11 +1,11 @@
 -- What a log keeps: each entry follows from the formula and the entries before it, learnt clauses are
 -- fresh with tight hints, and clocks never fall.
-use Rattle.std.specs.Prelude.{◌≡◌, ℕ, ◌+◌, ◌<◌, ◌≤◌, Bool, not, if◌then◌else◌, IsTrue, List, length, take, All, slice_index_or}
+use Rattle.std.specs.Prelude.{ℕ, ◌<◌, ◌≤◌, not, IsTrue, List, length, take, All, slice_index_or}
 use Rattle.cnf_core.specs.Literals.{Literals, AreWithin}
 use Rattle.cnf_core.specs.Formulas.{Cnf, Entails}
 use Rattle.lrat_lines.specs.Propagation.{IsRup}
 use Rattle.lrat_lines.specs.Tight.{IsTight}
-use Rattle.lrat_log.specs.Entries.{Entry, Recorded, HasLengthOf, is_learnt, is_import, learnt_count, id_after, known_after, is_query_used}
+use Rattle.lrat_log.specs.Entries.{Entry, Recorded, HasLengthOf, is_learnt, is_import, id_after, known_after}
 use Rattle.lrat_log.specs.Fresh.{IsFresh}
 
 -- the hint is the id of a clause of the formula or of an entry before this id
@@ -40,10 +40,3 @@ pub record IsLog (L : Recorded) : Type 0 where
   pub queries : All (λ e. e.query ≤ L.query) L.entries
   pub few_queries : L.query ≤ length L.entries
   pub clocks : All (λ e. e.clock ≤ L.clock) L.entries
-
--- and what is counted beside the entries
-pub record IsCounted (L : Recorded) (used : Bool) (learnt : ℕ) : Type 0 where
-  pub log : IsLog L
-  pub is_used : used ≡ is_query_used L
-  pub room : L.query + (if used then 1 else 0) ≤ length L.entries
-  pub count : learnt ≡ learnt_count L.entries

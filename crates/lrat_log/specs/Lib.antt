@@ -1,6 +1,6 @@
 pub mod Entries
 pub mod Fresh
 pub mod Kept
-pub mod Layout
+pub mod Steps
 pub mod Laws
 pub mod Examples

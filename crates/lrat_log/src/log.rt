@@ -3,7 +3,8 @@ ghost use Rattle.std.specs.Vec.{vec_len};
 ghost use Rattle.cnf_core.specs.Literals.{AreWithin};
 ghost use Rattle.cnf_core.specs.Formulas.{Entails};
 ghost use Rattle.lrat_lines.specs.Tight.{IsTight};
-ghost use Rattle.lrat_log.specs.Entries.{empty_log, entry_at, literal_of, hint_of, is_learnt, learnt_count, id_after, known_after, next_entry, with_entry, with_shown, with_import, with_new_query};
+ghost use Rattle.lrat_log.specs.Entries.{empty_log, entry_at, literal_of, hint_of, is_learnt, learnt_count, id_after, known_after};
+ghost use Rattle.lrat_log.specs.Entries.{next_entry, with_entry, with_shown, with_import, with_new_query};
 ghost use Rattle.lrat_log.specs.Fresh.{IsFresh};
 ghost use Rattle.lrat_log.specs.Kept.{IsShown, IsNext, IsLog};
 
@@ -47,7 +48,7 @@ pub struct Log<'f> {
 
 impl<'f> Model for Log<'f> {
     ghost use Rattle.lrat_log.specs.Entries.{Recorded};
-    ghost use Rattle.lrat_log.specs.Layout.{laid_log, IsKept};
+    ghost use Rattle.lrat_log.specs.Steps.Layout.{laid_log, IsKept};
 
     ghost Value = { Recorded };
 

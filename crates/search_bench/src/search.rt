@@ -216,7 +216,7 @@ impl Search {
             };
             let id = self.fresh_id();
             self.trail.root(lit.var(), id);
-            self.judge.take(&Line::Add { id, clause, hints });
+            self.judge.take(&Line::Add { id, lits: clause, hints });
         }
         Ok(())
     }
@@ -258,7 +258,7 @@ impl Search {
         self.trail.backtrack(back);
         let id = self.fresh_id();
         self.assert_first(&mut clause.lits, id)?;
-        self.judge.take(&Line::Add { id, clause, hints });
+        self.judge.take(&Line::Add { id, lits: clause, hints });
         Ok(())
     }
 
@@ -296,7 +296,7 @@ impl Search {
             lits: Vec::new(self.alloc),
         };
         let id = self.fresh_id();
-        self.judge.take(&Line::Add { id, clause, hints });
+        self.judge.take(&Line::Add { id, lits: clause, hints });
         Ok(())
     }
 }

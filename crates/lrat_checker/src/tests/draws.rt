@@ -70,7 +70,7 @@ impl Draws {
         let vars = if self.below(8) == 0 { 4 } else { 3 };
         Ok(Line::Add {
             id,
-            clause: Clause {
+            lits: Clause {
                 lits: self.literals(3, vars)?,
             },
             hints: self.ids(5, next)?,

@@ -38,7 +38,7 @@ impl PlainProof {
             reached: Vec::new(alloc),
         };
         for (i, clause) in formula.clauses().iter().enumerate() {
-            proof.know(i as u64 + 1, &clause.lits)?;
+            proof.know(i as u64 + 1, clause.as_slice())?;
         }
         Ok(proof)
     }
@@ -46,8 +46,8 @@ impl PlainProof {
     /// What the definition says of one more line.
     pub fn line(&mut self, line: &Line) -> Result<Result<(), Refused>, NoMemory> {
         match line {
-            Line::Add { id, clause, hints } => self.add(*id, &clause.lits, &hints.ids),
-            Line::Delete { ids, .. } => Ok(self.delete(&ids.ids)),
+            Line::Add { id, lits, hints } => self.add(*id, lits.as_slice(), hints.as_slice()),
+            Line::Delete { ids, .. } => Ok(self.delete(ids.as_slice())),
         }
     }
 

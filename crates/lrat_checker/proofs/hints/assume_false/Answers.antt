@@ -1,7 +1,7 @@
 use Rattle.std.proofs.Common.{◌≡◌, ◌++◌, ◌∷◌, [], ap, ◌∙◌, sym, map, take}
 use Rattle.cnf_core.specs.Literals.{Literal, Literals, negated}
 use Rattle.lrat_lines.specs.Sets.{has}
-use Rattle.lrat_checker.specs.Assigned.{Assigned}
+use Rattle.lrat_checker.specs.Steps.Assigned.{Assigned}
 use Rattle.lrat_checker.proofs.HintLemmas.{complement_found, no_complement_more, assumed_more}
 use Rattle.lrat_checker.proofs.hints.assume_false.Goals as goal
 

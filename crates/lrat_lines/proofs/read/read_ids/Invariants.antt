@@ -1,6 +1,6 @@
 use Rattle.std.proofs.Common.{◌≡◌, length}
 use Rattle.lrat_lines.specs.Grammar.{listed}
-use Rattle.lrat_lines.specs.Steps.{ahead, place_item}
+use Rattle.lrat_lines.specs.Steps.Reading.{ahead, place_item}
 use Rattle.lrat_lines.proofs.read.read_ids.Given as goal
 
 -- the ids so far, and what the tokens that are left give

@@ -6,7 +6,7 @@ use Rattle.lrat_lines.specs.declared.line.LineEnd.{LineEnd}
 use Rattle.lrat_lines.specs.declared.line.LineEnd.TheVariants.{BadToken, NotEnded, NegativeHint, Memory}
 use Rattle.lrat_lines.specs.Tokens.{tokens}
 use Rattle.lrat_lines.specs.Grammar.{line_of, line_of_tokens}
-use Rattle.lrat_lines.specs.Steps.{Gives}
+use Rattle.lrat_lines.specs.Grammar.{Gives}
 use Rattle.lrat_lines.proofs.read.read_line.Goals as goal
 
 gives_err : (end : LineEnd) (given : Result Line LineEnd) → given ≡ Err end → Gives (Err end) given

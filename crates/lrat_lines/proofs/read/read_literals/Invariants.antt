@@ -1,6 +1,6 @@
 use Rattle.std.proofs.Common.{◌≡◌, length}
 use Rattle.lrat_lines.specs.Grammar.{listed, literal_item}
-use Rattle.lrat_lines.specs.Steps.{ahead}
+use Rattle.lrat_lines.specs.Steps.Reading.{ahead}
 use Rattle.lrat_lines.proofs.read.read_literals.Given as goal
 
 -- the literals so far, and what the tokens that are left give

@@ -2,7 +2,7 @@ use Rattle.std.proofs.Common.{◌≡◌, true, take}
 use Rattle.std.specs.List.{list_all}
 use Rattle.std.specs.Char.{is_ascii_digit}
 use Rattle.cnf_core.specs.Spelling.{digits_value}
-use Rattle.lrat_lines.specs.Steps.{fitting}
+use Rattle.lrat_lines.specs.Steps.Reading.{fitting}
 use Rattle.lrat_lines.proofs.token.decimal.Given as goal
 
 -- the bytes so far are digits, and the number is what they write

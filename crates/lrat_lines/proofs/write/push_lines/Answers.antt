@@ -4,7 +4,7 @@ use Rattle.std.proofs.lemmas.Result.{err_from_is_err_and}
 use Rattle.bone_desk.proofs.Steps.{writes_more, front_same, same_none}
 use Rattle.lrat_lines.specs.Printed.{line_text, proof_text}
 use Rattle.lrat_lines.proofs.TextLines.{text_more, text_split, text_around}
-use Rattle.lrat_lines.proofs.Pieces.{owes_as, front_as, owes_next, front_next, front_before}
+use Rattle.bone_desk.proofs.Pieces.{owes_as, front_as, owes_next, front_next, front_before}
 use Rattle.lrat_lines.proofs.write.push_lines.Goals as goal
 
 -- a line that was not printed: the port has a front of those before

@@ -3,7 +3,7 @@ use Rattle.std.proofs.Common.{◌≡◌, ◌∙◌, List, ℕ, ◌++◌, ap, rul
 use Rattle.std.proofs.lemmas.Result.{err_from_is_err_and}
 use Rattle.bone_desk.proofs.Steps.{front_owed}
 use Rattle.lrat_lines.specs.Printed.{proof_text}
-use Rattle.lrat_lines.proofs.Pieces.{front_as}
+use Rattle.bone_desk.proofs.Pieces.{front_as}
 use Rattle.lrat_lines.proofs.write.write_proof.Goals as goal
 
 pub returns-in_err-flush-clause-front : goal.returns-in_err-flush-clause-front

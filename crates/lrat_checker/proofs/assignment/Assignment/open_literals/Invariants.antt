@@ -1,6 +1,6 @@
 use Rattle.std.proofs.Common.{◌≡◌, take}
 use Rattle.lrat_lines.specs.Propagation.{open_literals}
-use Rattle.lrat_checker.specs.Assigned.{open_of}
+use Rattle.lrat_checker.specs.Steps.Assigned.{open_of}
 use Rattle.lrat_checker.proofs.assignment.Assignment.open_literals.Given as goal
 
 -- the literals so far

@@ -10,20 +10,20 @@ use Rattle.lrat_checker.proofs.checker.Checker.line.Goals as goal
 pub returns-in-Add-clause-step : goal.returns-in-Add-clause-step
 returns-in-Add-clause-step c F lines stands =
     let id = c.in-Add.id in
-    let lits = c.deref.result.now in
-    let hints = c.deref-in-Add.result.now in
-    let same : lits ≡ c.in-Add.clause = c.deref.ensures.value ∙ c.clause.view_is in
-    let same_hints : hints ≡ c.in-Add.hints = c.deref-in-Add.ensures.value ∙ c.hints.view_is in
+    let lits = c.as_slice.result.now in
+    let hints = c.as_slice-in-Add.result.now in
+    let same : lits ≡ c.in-Add.lits = c.as_slice.ensures in
+    let same_hints : hints ≡ c.in-Add.hints = c.as_slice-in-Add.ensures in
     let is_line : Add id lits hints ≡ c.args.line.now =
-    ap (λ (d : Literals). Add id d hints) same ∙ ap (λ (hs : List ℕ). Add id c.in-Add.clause hs) same_hints ∙ sym c.in-Add.is in
+    ap (λ (d : Literals). Add id d hints) same ∙ ap (λ (hs : List ℕ). Add id c.in-Add.lits hs) same_hints ∙ sym c.in-Add.is in
     subst (λ (line : Line). Answers F lines line c.add.new.self c.add.result) is_line
     (answers_add c.args.self.now c.add.new.self F lines id lits hints c.add.result stands c.add.ensures.ok c.add.ensures.refused)
 
 pub returns-in-Delete-clause-step : goal.returns-in-Delete-clause-step
 returns-in-Delete-clause-step c F lines stands =
     let id = c.in-Delete.id in
-    let ids = c.deref-in-Delete.result.now in
-    let same : ids ≡ c.in-Delete.ids = c.deref-in-Delete.ensures.value ∙ c.ids.view_is in
+    let ids = c.as_slice-in-Delete.result.now in
+    let same : ids ≡ c.in-Delete.ids = c.as_slice-in-Delete.ensures in
     let is_line : Delete id ids ≡ c.args.line.now = ap (λ (is : List ℕ). Delete id is) same ∙ sym c.in-Delete.is in
     subst (λ (line : Line). Answers F lines line c.delete.new.self c.delete.result) is_line
     (answers_delete c.args.self.now c.delete.new.self F lines id ids c.delete.result stands c.delete.ensures.ok c.delete.ensures.refused)

@@ -1,8 +1,9 @@
 -- The new entry lies behind the others.
 use Rattle.std.proofs.Common.{◌≡◌, true, ℕ, ◌+◌, ◌∷◌, ◌++◌, [], List, length, sym, ap, ◌∙◌, subst, arith, length-append}
 use Rattle.lrat_log.specs.Entries.{Entry, Recorded, next_entry, with_entry}
-use Rattle.lrat_log.specs.Kept.{IsNext, IsCounted}
-use Rattle.lrat_log.specs.Layout.{laid_log, laid_entries}
+use Rattle.lrat_log.specs.Kept.{IsNext}
+use Rattle.lrat_log.specs.Steps.Counted.{IsCounted}
+use Rattle.lrat_log.specs.Steps.Layout.{laid_log, laid_entries}
 use Rattle.lrat_log.specs.declared.log.Line.{Line}
 use Rattle.lrat_log.proofs.Laid.{IsLastPart, entries_push, laid_push}
 use Rattle.lrat_log.proofs.Kept.{counted_push}

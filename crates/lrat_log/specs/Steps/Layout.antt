@@ -4,7 +4,7 @@ use Rattle.std.specs.Prelude.{ℕ, ◌≤◌, Bool, List, length, map, slice_ran
 use Rattle.cnf_core.specs.Literals.{Literals}
 use Rattle.cnf_core.specs.Formulas.{Cnf}
 use Rattle.lrat_log.specs.Entries.{Entry, Recorded}
-use Rattle.lrat_log.specs.Kept.{IsCounted}
+use Rattle.lrat_log.specs.Steps.Counted.{IsCounted}
 use Rattle.lrat_log.specs.declared.log.Line.{Line}
 use Rattle.lrat_log.specs.declared.log.Span.{Span}
 

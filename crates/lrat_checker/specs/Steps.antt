@@ -1,0 +1,4 @@
+pub mod Assigned
+pub mod Units
+pub mod Assumed
+pub mod Taking
