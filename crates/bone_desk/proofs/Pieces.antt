@@ -4,7 +4,7 @@ use Rattle.bone_desk.specs.declared.desk.Port.{Port}
 use Rattle.bone_desk.specs.declared.desk.Act.TheVariants.{Write}
 use Rattle.bone_desk.specs.Told.{Told, Gave, Rose, WritesOnly}
 use Rattle.bone_desk.specs.Gives.{GaveFront, Owes, Waiting, Pushed, CutOff}
-use Rattle.bone_desk.proofs.Steps.{owes_none, owes_all, owes_more, owes_given, front_longer, front_more, front_owed, rose_later, writes_none, writes_more}
+use Rattle.bone_desk.proofs.Steps.{owes_none, owes_all, owes_more, front_longer, front_more, front_owed, rose_later, writes_none, writes_more}
 
 -- the bytes by another spelling
 pub owes_as : {p : Port} {waiting xs ys : List ℕ} {a b : Told} → xs ≡ ys → Owes p waiting xs a b → Owes p waiting ys a b
@@ -79,40 +79,10 @@ pub cut_waiting : (y : List ℕ) (p : Port) (waiting : List ℕ) (u : Waiting) (
 cut_waiting y p waiting u a b before front only cause =
     rw before record { front = front_longer y front; only = only; cause = cause }
 
--- a buffer of one port from its making to its end: the text x was pushed, and then what waited was given
-
-pub whole_given : {p : Port} (x : List ℕ) {u v : Waiting} {a b : Told} (c : Told) → u ≡ record { port = p; bytes = [] }
-    → Pushed x u v a b → Gave v.port v.bytes b c → Gave p x a c
-whole_given {p} x {u} {v} {a} {b} c new pushed given =
-    let P : Waiting → Type 0 = λ start. Pushed x start v a b in
-    let from_new = subst P new pushed in
-    owes_given c from_new.owes (at_port (λ q. Gave q v.bytes b c) from_new.port given)
-
+-- a text was pushed into a new buffer, and of what waited at the end the port got a front
 pub whole_cut : {p : Port} (x : List ℕ) {u v : Waiting} {a b c : Told} → u ≡ record { port = p; bytes = [] }
     → Pushed x u v a b → GaveFront v.port v.bytes b c → GaveFront p x a c
 whole_cut {p} x {u} {v} {a} {b} {c} new pushed front =
     let P : Waiting → Type 0 = λ start. Pushed x start v a b in
     let from_new = subst P new pushed in
     front_owed from_new.owes (at_port (λ q. GaveFront q v.bytes b c) from_new.port front)
-
-pub whole_cut_before : {p : Port} (x : List ℕ) {u : Waiting} {a b : Told} → u ≡ record { port = p; bytes = [] }
-    → CutOff x u a b → GaveFront p x a b
-whole_cut_before {p} x {u} {a} {b} new cut =
-    let P : Waiting → Type 0 = λ start. CutOff x start a b in
-    let from_new = subst P new cut in from_new.front
-
--- and nothing else was written
-pub whole_only : {p : Port} (x : List ℕ) {u v : Waiting} {a b c : Told} → u ≡ record { port = p; bytes = [] }
-    → Pushed x u v a b → WritesOnly v.port b c → WritesOnly p a c
-whole_only {p} x {u} {v} {a} {b} {c} new pushed only =
-    let P : Waiting → Type 0 = λ start. Pushed x start v a b in
-    let from_new = subst P new pushed in
-    writes_more from_new.only (at_port (λ q. WritesOnly q b c) from_new.port only)
-
-pub whole_cause : {p : Port} (x : List ℕ) {u v : Waiting} {a b c : Told} → u ≡ record { port = p; bytes = [] }
-    → Pushed x u v a b → WritesOnly v.port b c → Rose (Write v.port) b c → Rose (Write p) a c
-whole_cause {p} x {u} {v} {a} {b} {c} new pushed only rose =
-    let P : Waiting → Type 0 = λ start. Pushed x start v a b in
-    let from_new = subst P new pushed in
-    let only_p : WritesOnly p b c = at_port (λ q. WritesOnly q b c) from_new.port only in
-    rose_later from_new.only.counts only_p.counts (at_port (λ q. Rose (Write q) b c) from_new.port rose)
