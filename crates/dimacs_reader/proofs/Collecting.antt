@@ -3,8 +3,10 @@ use Rattle.std.proofs.Common.{◌≡◌, ℕ, ◌+◌, ◌-◌, ◌^◌, ◌≤�
 use Rattle.bone_desk.specs.Told.{Told}
 use Rattle.bone_desk.specs.declared.desk.Feed.TheVariants.{Text}
 use Rattle.bone_desk.proofs.Steps.{took_none, took_more, reads_none, reads_more}
-use Rattle.dimacs_reader.specs.Feeds.{Came, IsScanOf}
-use Rattle.dimacs_reader.specs.Scans.{Scanned, Stands, byte_count, fresh_scan}
+use Rattle.dimacs_reader.specs.Feeds.{Came}
+use Rattle.dimacs_reader.specs.Scans.{Stands, byte_count}
+use Rattle.dimacs_reader.specs.Steps.Machine.{Scanned, fresh_scan}
+use Rattle.dimacs_reader.specs.Steps.Reads.{IsScanOf}
 
 pub came_none : (t : Told) → Came t t []
 came_none t = record { took = took_none Text t; only = reads_none Text t }

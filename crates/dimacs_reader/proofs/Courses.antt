@@ -4,14 +4,14 @@ use Rattle.std.proofs.Common.{◌++◌, length, map, refl, sym, ap, ◌∙◌, a
 use Rattle.std.specs.Prelude.{fold, filter}
 use Rattle.std.proofs.lemmas.Bool.{cases_Bool}
 use Rattle.std.proofs.lemmas.List.Sums.{fold-append}
-use Rattle.dimacs_reader.specs.Scans.{Course}
+use Rattle.dimacs_reader.specs.Steps.Machine.{Course}
 use Rattle.dimacs_reader.specs.Pieces.{Piece, Line, is_line_feed, is_blank, is_filled, before, pieces, pieces_behind, line_of}
 use Rattle.dimacs_reader.specs.Pieces.{lines}
 use Rattle.dimacs_reader.specs.declared.word.Word.{Word}
 use Rattle.dimacs_reader.specs.declared.word.Word.TheVariants.{Nothing}
-use Rattle.dimacs_reader.specs.Words.{byte_after, word_of, is_nothing}
-use Rattle.dimacs_reader.specs.Scans.{Scanned, scanned_at, between_at, fresh_scan, is_idle, after_token, after_end, flushed_at, flushed}
-use Rattle.dimacs_reader.specs.Scans.{after_byte, after_bytes}
+use Rattle.dimacs_reader.specs.Steps.Words.{byte_after, word_of, is_nothing}
+use Rattle.dimacs_reader.specs.Steps.Machine.{Scanned, scanned_at, between_at, fresh_scan, is_idle, after_token, after_end, flushed_at, flushed}
+use Rattle.dimacs_reader.specs.Steps.Machine.{after_byte, after_bytes}
 use Rattle.dimacs_reader.proofs.Words.{Tells, tells}
 use Rattle.dimacs_reader.proofs.Tokens.{course_after, AreFew, few_course_if, few_after_token, few_after_end, course_of_word}
 

@@ -1,6 +1,8 @@
 pub mod PlainPieces
 pub mod PlainNumbers
 pub mod PlainLines
+pub mod PlainClauses
+pub mod PlainShown
 pub mod PlainReads
 pub mod Words
 pub mod Tokens

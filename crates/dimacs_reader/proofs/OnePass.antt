@@ -1,13 +1,14 @@
 -- A text read byte by byte gives what it means.
 use Rattle.std.proofs.Common.{◌≡◌, ℕ, List, length, refl, ap, ◌∙◌, arith}
 use Rattle.std.specs.Prelude.{fold, Option, Some, None}
-use Rattle.dimacs_reader.specs.Scans.{Course}
-use Rattle.dimacs_reader.specs.Scans.{Stage}
-use Rattle.dimacs_reader.specs.Scans.{Before, AfterWord, AfterFormat, AfterVars, AfterCount, Clauses}
-use Rattle.dimacs_reader.specs.Scans.{Done, Failed}
+use Rattle.dimacs_reader.specs.Steps.Machine.{Course}
+use Rattle.dimacs_reader.specs.Steps.Machine.{Stage}
+use Rattle.dimacs_reader.specs.Steps.Machine.{Before, AfterWord, AfterFormat, AfterVars, AfterCount, Clauses}
+use Rattle.dimacs_reader.specs.Steps.Machine.{Showing, Shown, Done, Failed}
 use Rattle.dimacs_reader.specs.Pieces.{lines}
 use Rattle.dimacs_reader.specs.Reading.{reading_of}
-use Rattle.dimacs_reader.specs.Scans.{Scanned, fresh_scan, after_line, outcome_at, flushed, after_bytes, outcome, OnePass, Stands}
+use Rattle.dimacs_reader.specs.Steps.Machine.{Scanned, fresh_scan, after_line, outcome_at, flushed, after_bytes, outcome}
+use Rattle.dimacs_reader.specs.Scans.{Stands}
 use Rattle.dimacs_reader.proofs.Courses.{run_line, course_by_lines, place-after_bytes}
 use Rattle.dimacs_reader.proofs.Grammar.{outcome_by_lines}
 
@@ -19,10 +20,12 @@ outcome_at-after_line place AfterFormat = refl
 outcome_at-after_line place (AfterVars b) = refl
 outcome_at-after_line place (AfterCount n b) = refl
 outcome_at-after_line place (Clauses n b) = refl
+outcome_at-after_line place (Showing n b) = refl
+outcome_at-after_line place (Shown n b) = refl
 outcome_at-after_line place (Done F) = refl
 outcome_at-after_line place (Failed f) = refl
 
-pub one_pass : OnePass
+pub one_pass : (text : List ℕ) → outcome (after_bytes fresh_scan text) ≡ reading_of text
 unfolding reading_of
 one_pass text =
     let s : Scanned = after_bytes fresh_scan text in

@@ -1,11 +1,12 @@
 -- Texts, and what each means.
-use Rattle.std.specs.Prelude.{◌≡◌, List, [], ◌∷◌, Ok, codes, ℕ, true, false}
+use Rattle.std.specs.Prelude.{◌≡◌, List, [], ◌∷◌, Ok, Some, None, codes, ℕ, true, false}
+use Rattle.cnf_core.specs.Literals.{Assignment}
 use Rattle.cnf_core.specs.Example.{chain}
 use Rattle.cnf_core.specs.Formulas.{Cnf, empty_formula}
 use Rattle.dimacs_reader.specs.declared.fault.BadKind.TheVariants.{NoHeader, BadHeader, BadNumber}
 use Rattle.dimacs_reader.specs.declared.fault.BadKind.TheVariants.{LiteralRange, OverLimit}
 use Rattle.dimacs_reader.specs.declared.fault.BadKind.TheVariants.{TooManyClauses, TooFewClauses}
-use Rattle.dimacs_reader.specs.declared.fault.BadKind.TheVariants.{Unended}
+use Rattle.dimacs_reader.specs.declared.fault.BadKind.TheVariants.{Unended, BadShow}
 use Rattle.dimacs_reader.specs.Reading.{reading_of, fault_at}
 
 -- three clauses over three variables
@@ -26,7 +27,12 @@ abbrev small : Cnf
 small = record {
   vars = 2;
   clauses = (record { var = 1; positive = true } ∷ record { var = 2; positive = false } ∷ []) ∷ [];
+  shown = None;
 }
+
+-- the three clauses, with just the marked variables shown
+abbrev pub chain_showing : Assignment → Cnf
+chain_showing marks = record chain { shown = Some marks }
 
 pub record TextsAreWorked : Type 0 where
   pub plain : reading_of chain_text ≡ Ok chain
@@ -52,3 +58,25 @@ pub record TextsAreWorked : Type 0 where
       reading_of (codes "p cnf 2 1\n18446744073709551617 0\n") ≡ fault_at LiteralRange 10
   pub end_in_a_clause : reading_of (codes "p cnf 2 2\n1 0\n2\n%\n") ≡ fault_at Unended 16
   pub end_too_soon : reading_of (codes "p cnf 2 2\n1 0\n %\n") ≡ fault_at TooFewClauses 15
+  pub shows_two :
+      reading_of (codes "p cnf 3 3\nc p show 2 3 0\n1 0\n-1 2 0\n2 3 0\n")
+      ≡ Ok (chain_showing (false ∷ true ∷ true ∷ []))
+  pub shows_none :
+      reading_of (codes "p cnf 3 3\nc p show 0\n1 0\n-1 2 0\n2 3 0\n")
+      ≡ Ok (chain_showing (false ∷ false ∷ false ∷ []))
+  pub show_lines_join :
+      reading_of (codes "p cnf 3 3\n c\tp show 003 00\r\n1 0 -1\nc p show 1 1 0\n2 0 2 3 0\nc p show 0")
+      ≡ Ok (chain_showing (true ∷ false ∷ true ∷ []))
+  pub show_elsewhere :
+      reading_of (codes "c p show 9\np cnf 3 3\n1 0\n-1 2 0\n2 3 0\n%\nc p show 9\n") ≡ Ok chain
+  pub no_show_lines :
+      reading_of (codes "p cnf 3 3\ncp show 1 0\n1 0\nc pshow 1 0\n-1 2 0\nc p shown 9\n2 3 0\nc p\nc")
+      ≡ Ok chain
+  pub shows_no_such_variable :
+      reading_of (codes "p cnf 2 1\nc p show 3 0\n1 2 0\n") ≡ fault_at BadShow 19
+  pub show_without_end : reading_of (codes "p cnf 2 1\nc p show 1\n1 2 0\n") ≡ fault_at BadShow 20
+  pub show_alone : reading_of (codes "p cnf 2 1\nc p show") ≡ fault_at BadShow 18
+  pub shows_a_literal : reading_of (codes "p cnf 2 1\nc p show -1 0\n") ≡ fault_at BadShow 19
+  pub shows_behind_its_end : reading_of (codes "p cnf 2 1\nc p show 1 0 0\n") ≡ fault_at BadShow 23
+  pub shows_a_long_number :
+      reading_of (codes "p cnf 2 1\nc p show 18446744073709551617 0\n") ≡ fault_at BadShow 19

@@ -1,5 +1,5 @@
 -- What came of the feed with the text, and what was made of it.
-use Rattle.std.specs.Prelude.{◌≡◌, ℕ, ◌<◌, ◌≤◌, ◌^◌, List, length, Option, Result, Ok, Err}
+use Rattle.std.specs.Prelude.{◌≡◌, ℕ, ◌<◌, ◌≤◌, ◌^◌, List, length, Result, Ok, Err}
 use Rattle.bone_desk.specs.Told.{Told, Took, ReadsOnly, Rose, AtEnd}
 use Rattle.bone_desk.specs.declared.desk.Act.TheVariants.{Read}
 use Rattle.bone_desk.specs.declared.desk.Feed.TheVariants.{Text}
@@ -10,7 +10,6 @@ use Rattle.dimacs_reader.specs.declared.fault.ScanEnd.TheVariants as scan_end
 use Rattle.dimacs_reader.specs.declared.read.ReadEnd.{ReadEnd}
 use Rattle.dimacs_reader.specs.declared.read.ReadEnd.TheVariants.{Fault, TooLong, Bad, Memory}
 use Rattle.dimacs_reader.specs.Reading.{fault_at, reading_of}
-use Rattle.dimacs_reader.specs.Scans.{Scanned, Stands, byte_count}
 
 -- these bytes came of the feed, and the call changed nothing else
 pub record Came (old new : Told) (text : List ℕ) : Type 0 where
@@ -50,17 +49,3 @@ pub record ReadsFormula (old new : Told) (result : Result Cnf ReadEnd) : Type 0 
 abbrev pub read_end_of : ScanEnd → ReadEnd
 read_end_of (scan_end.Bad kind place) = Bad kind place
 read_end_of scan_end.Memory = Memory
-
--- the scan stands for a text that isn't too long
-pub record IsScanOf (scan : Option Scanned) (text : List ℕ) : Type 0 where
-  pub stands : Stands scan text
-  pub count : byte_count scan ≡ length text
-  pub limit : length text ≤ 2 ^ 27
-
--- what each end of the reads says of the bytes that came
-abbrev pub ScansText : Told → Told → List ℕ → Result (Option Scanned) ReadEnd → Type 0
-ScansText old new text (Ok scan) = AtEnd Text new × IsScanOf scan text
-ScansText old new text (Err Fault) = IsReadFault old new text
-ScansText old new text (Err TooLong) = IsTooLong text
-ScansText old new text (Err (Bad kind place)) = ⊥
-ScansText old new text (Err Memory) = Unit {0}

@@ -1,9 +1,8 @@
 pub mod Pieces
 pub mod Numbers
 pub mod Reading
-pub mod Rooms
-pub mod Words
 pub mod Examples
 pub mod Scans
 pub mod PlainText
 pub mod Feeds
+pub mod Steps

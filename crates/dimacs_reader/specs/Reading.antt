@@ -1,15 +1,15 @@
 -- What a DIMACS text means: a formula, or its first fault with the place of that fault.
-use Rattle.std.specs.Prelude.{ℕ, ◌+◌, ◌^◌, ◌==◌, nat_lt, nat_le, Bool, true, false}
-use Rattle.std.specs.Prelude.{if◌then◌else◌, List, [], ◌∷◌, ◌++◌, length, Option, Some, None}
+use Rattle.std.specs.Prelude.{ℕ, ◌+◌, ◌^◌, ◌==◌, nat_lt, nat_le, Bool, true, false, ◌&&◌}
+use Rattle.std.specs.Prelude.{if◌then◌else◌, List, [], ◌∷◌, ◌++◌, length, drop, Option, Some, None}
 use Rattle.std.specs.Prelude.{Result, Ok, Err, bytes_eq, codes}
 use Rattle.cnf_core.specs.Literals.{Literal, Literals}
-use Rattle.cnf_core.specs.Formulas.{Cnf, empty_formula, with_clause}
+use Rattle.cnf_core.specs.Formulas.{Cnf, empty_formula, with_clause, restricted, showing}
 use Rattle.dimacs_reader.specs.declared.fault.BadKind.{BadKind}
 use Rattle.dimacs_reader.specs.declared.fault.Fault.{Fault}
 use Rattle.dimacs_reader.specs.declared.fault.BadKind.TheVariants.{NoHeader, BadHeader, BadNumber}
 use Rattle.dimacs_reader.specs.declared.fault.BadKind.TheVariants.{LiteralRange, TooManyClauses}
 use Rattle.dimacs_reader.specs.declared.fault.BadKind.TheVariants.{TooFewClauses, Unended}
-use Rattle.dimacs_reader.specs.declared.fault.BadKind.TheVariants.{OverLimit}
+use Rattle.dimacs_reader.specs.declared.fault.BadKind.TheVariants.{OverLimit, BadShow}
 use Rattle.dimacs_reader.specs.Pieces.{Piece, Line, lines}
 use Rattle.cnf_core.specs.Spelling.{number_of_digits}
 use Rattle.dimacs_reader.specs.Numbers.{literal_of}
@@ -129,14 +129,55 @@ ended_with clauses place F [] =
 abbrev pub ended : ℕ → ℕ → Partial → Result Cnf Fault
 ended clauses place b = ended_with clauses place b.formula b.clause
 
+-- the same over the formula that shows just what it is told to show, and over the one that shows one
+-- variable more
+abbrev pub restricting : Partial → Partial
+restricting b = partial_of (restricted b.formula) b.clause b.literals
+
+abbrev pub showing_also : Partial → ℕ → Partial
+showing_also b v = partial_of (showing b.formula v) b.clause b.literals
+
+-- whether the line's first tokens are these words
+abbrev pub begins_as : List (List ℕ) → List Piece → Bool
+begins_as [] ts = true
+begins_as (w ∷ ws) [] = false
+begins_as (w ∷ ws) (t ∷ ts) = bytes_eq t.bytes w && begins_as ws ts
+
+-- a show line begins with three words, each a token of its own
+abbrev pub is_show : List Piece → Bool
+is_show ts = begins_as (codes "c" ∷ codes "p" ∷ codes "show" ∷ []) ts
+
+-- the number of a token of a show line: one of the formula's variables, or zeros, which end the line
+abbrev pub show_number : ℕ → ℕ → Option ℕ → Result ℕ Fault
+show_number vars place None = fault_at BadShow place
+show_number vars place (Some v) = if nat_lt vars v then fault_at BadShow place else Ok v
+
+-- behind the end of a show line no token is left
+abbrev pub show_end : Partial → List Piece → Result Partial Fault
+show_end b [] = Ok b
+show_end b (t ∷ ts) = fault_at BadShow t.place
+
+-- the variables of a show line and its end; where that is missing the fault is at the line's end
+abbrev pub show_tokens : ℕ → Partial → List Piece → Result Partial Fault
+show_tokens end b [] = fault_at BadShow end
+show_tokens end b (t ∷ ts) =
+    show_number b.formula.vars t.place (number_of_digits t.bytes)
+    >>= λ v. if v == 0 then show_end b ts else show_tokens end (showing_also b v) ts
+
+-- the formula shows just the variables of the show lines, where there is one
+abbrev pub show_line : ℕ → Partial → List Piece → Result Partial Fault
+show_line end b ts = show_tokens end (restricting b) (drop 3 ts)
+
 -- the formula that the lines behind the header make. They end where the text ends, or at a line
--- whose first byte that is no blank is a `%`, and then the other lines are ignored
+-- whose first byte that is no blank is a `%`, and then the other lines are ignored. A show line may
+-- stand inside a clause, too
 abbrev pub clause_lines : ℕ → ℕ → List Line → Partial → Result Cnf Fault
 clause_lines clauses end [] b = ended clauses end b
 clause_lines clauses end (l ∷ ls) b =
-    if says_nothing l.tokens then clause_lines clauses end ls b
+    if is_show l.tokens then show_line l.end b l.tokens >>= clause_lines clauses end ls
+    else (if says_nothing l.tokens then clause_lines clauses end ls b
     else (if begins_with 37 l.tokens then ended clauses (place_of l.end l.tokens) b
-    else tokens clauses b l.tokens >>= clause_lines clauses end ls)
+    else tokens clauses b l.tokens >>= clause_lines clauses end ls))
 
 abbrev pub after_header : ℕ → List Line → Header → Result Cnf Fault
 after_header end ls h = clause_lines h.clauses end ls (no_clauses h.vars)

@@ -1,9 +1,11 @@
 ghost use Rattle.std.specs.Prelude.{◌≡◌, false, ℕ, IfOk, OnOk};
-ghost use Rattle.dimacs_reader.specs.Reading.{limited, ended, Partial};
-ghost use Rattle.dimacs_reader.specs.Words.{number_in};
-ghost use Rattle.dimacs_reader.specs.Scans.{AfterFormat, AfterVars, Clauses, Done, stage_at, course_at};
-ghost use Rattle.dimacs_reader.specs.Scans.{first_course, stage_of, failed, word_stage, after_literal};
-ghost use Rattle.dimacs_reader.specs.Scans.{after_word, after_token, after_end, outcome_at, is_idle};
+ghost use Rattle.dimacs_reader.specs.Reading.{limited, show_number, ended, Partial};
+ghost use Rattle.dimacs_reader.specs.Steps.Words.{number_in};
+ghost use Rattle.dimacs_reader.specs.Steps.Machine.{AfterFormat, AfterVars, Clauses, Showing, Done};
+ghost use Rattle.dimacs_reader.specs.Steps.Machine.{stage_at, course_at, first_course, stage_of, failed};
+ghost use Rattle.dimacs_reader.specs.Steps.Machine.{word_stage, after_literal, show_stage, after_word};
+ghost use Rattle.dimacs_reader.specs.Steps.Machine.{comment_line, show_course, after_token, after_end};
+ghost use Rattle.dimacs_reader.specs.Steps.Machine.{outcome_at, is_idle};
 
 use crate::partial::{ClauseCount, Partial};
 use crate::word::Word;
@@ -27,6 +29,10 @@ pub enum Phase {
     AfterCount,
     /// Among the clauses.
     Clauses,
+    /// In a show line, before its end.
+    Showing,
+    /// In a show line, behind its end.
+    Shown,
     /// Behind a line that ends the clauses.
     Done,
     /// After the first fault.
@@ -40,7 +46,11 @@ pub enum LineKind {
     Fresh,
     /// It is a comment.
     Comment,
-    /// A token that is no comment.
+    /// The token `c` alone: it is a comment, unless a show line.
+    AfterC,
+    /// The tokens `c` and `p`: the same.
+    AfterCP,
+    /// A token that is no comment, or those of a show line.
     Inside,
 }
 
@@ -56,7 +66,7 @@ pub struct Course {
 }
 
 impl Model for Course {
-    ghost use Rattle.dimacs_reader.specs.Scans.{Course, stage_at, course_at};
+    ghost use Rattle.dimacs_reader.specs.Steps.Machine.{Course, stage_at, course_at};
 
     ghost Value = { Course };
 
@@ -92,13 +102,33 @@ impl Course {
         if self.is_idle() {
             return Ok(());
         }
-        let first = matches!(self.line, LineKind::Fresh);
-        if first && word.is_remark() {
-            self.line = LineKind::Comment;
-            return Ok(());
+        match self.line {
+            LineKind::Inside => self.read_word(false, place, word),
+            LineKind::Fresh if !word.is_remark() => {
+                self.line = LineKind::Inside;
+                self.read_word(true, place, word)
+            }
+            LineKind::AfterCP if word.is_show() => self.begin_show(),
+            line => {
+                self.line = comment_line(line, word);
+                Ok(())
+            }
         }
-        self.line = LineKind::Inside;
-        self.read_word(first, place, word)
+    }
+
+    /// After the words that begin a show line. One stands only among the clauses; elsewhere it is a
+    /// comment.
+    fn begin_show(&mut self) -> Result<(), NoMemory>
+        ensures { OnOk result (self.new ≡ show_course self.old.stage) }
+    {
+        if matches!(self.phase, Phase::Clauses) {
+            self.partial.restrict()?;
+            self.line = LineKind::Inside;
+            self.phase = Phase::Showing;
+        } else {
+            self.line = LineKind::Comment;
+        }
+        Ok(())
     }
 
     /// After a token that is no comment, and may be the first of its line.
@@ -124,6 +154,8 @@ impl Course {
             Phase::AfterFormat => vars_phase(&mut self.partial, self.alloc, place, word),
             Phase::AfterVars => count_phase(&mut self.count, place, word),
             Phase::AfterCount => failed(BadKind::BadHeader, place),
+            Phase::Showing => show_phase(&mut self.partial, place, word)?,
+            Phase::Shown => failed(BadKind::BadShow, place),
             Phase::Done => Phase::Done,
             Phase::Failed(fault) => Phase::Failed(fault),
         };
@@ -139,7 +171,8 @@ impl Course {
             Phase::AfterWord | Phase::AfterFormat | Phase::AfterVars => {
                 self.phase = failed(BadKind::BadHeader, place);
             }
-            Phase::AfterCount => self.phase = Phase::Clauses,
+            Phase::Showing => self.phase = failed(BadKind::BadShow, place),
+            Phase::AfterCount | Phase::Shown => self.phase = Phase::Clauses,
             Phase::Before | Phase::Clauses | Phase::Done | Phase::Failed(_) => {}
         }
     }
@@ -163,10 +196,27 @@ impl Course {
                 kind: BadKind::BadHeader,
                 place,
             }),
-            Phase::AfterCount | Phase::Clauses => partial.into_formula(count, place),
+            Phase::Showing => Err(Fault {
+                kind: BadKind::BadShow,
+                place,
+            }),
+            Phase::AfterCount | Phase::Clauses | Phase::Shown => {
+                partial.into_formula(count, place)
+            }
             Phase::Done => Ok(partial.into_ended()),
             Phase::Failed(fault) => Err(fault),
         }
+    }
+}
+
+/// The line that began as a comment may begin, after one word more.
+fn comment_line(line: LineKind, word: Word) -> LineKind
+    ensures { result ≡ comment_line line word }
+{
+    match line {
+        LineKind::Fresh if word.is_c() => LineKind::AfterC,
+        LineKind::AfterC if word.is_p() => LineKind::AfterCP,
+        _ => LineKind::Comment,
     }
 }
 
@@ -269,4 +319,32 @@ fn literal_phase(
     }
     partial.push(Lit::new(var, positive))?;
     Ok(Phase::Clauses)
+}
+
+/// The number of a show line's token: one of so many variables, or 0.
+fn show_number(vars: u32, place: u64, word: Word) -> Result<u32, Fault>
+    ensures { result ≡ show_number vars place (number_in word) }
+{
+    match word {
+        Word::Digits(number) if number <= vars => Ok(number),
+        _ => Err(Fault {
+            kind: BadKind::BadShow,
+            place,
+        }),
+    }
+}
+
+/// After a token of a show line.
+fn show_phase(partial: &mut Partial, place: u64, word: Word) -> Result<Phase, NoMemory>
+    ensures { IfOk result (λ phase. (n : ℕ) → stage_at phase n partial.new
+        ≡ after_word false (Showing n partial.old) place word) }
+{
+    match show_number(partial.vars(), place, word) {
+        Ok(0) => Ok(Phase::Shown),
+        Ok(var) => {
+            partial.show(var)?;
+            Ok(Phase::Showing)
+        }
+        Err(fault) => Ok(Phase::Failed(fault)),
+    }
 }

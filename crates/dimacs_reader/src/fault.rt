@@ -22,6 +22,8 @@ pub enum BadKind {
     Unended,
     /// There are more than 2^20 variables, 2^21 clauses or 2^23 literals.
     OverLimit,
+    /// A word of a show line is none of the variables, or stands behind its end, or the end is missing.
+    BadShow,
 }
 
 /// The first fault of a text: what is wrong, and the place of the byte where it is, from 0.

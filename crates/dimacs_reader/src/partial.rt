@@ -1,7 +1,8 @@
-ghost use Rattle.std.specs.Prelude.{◌≡◌, ◌+◌, ◌^◌, ◌<◌, ◌≤◌, [], ◌∷◌, ◌++◌, length, Ok, Err, OnOk, IfErr};
+ghost use Rattle.std.specs.Prelude.{◌≡◌, ◌+◌, ◌^◌, ◌<◌, ◌≤◌, [], ◌∷◌, ◌++◌, length, Ok, Err};
+ghost use Rattle.std.specs.Prelude.{OnOk, IfErr};
 ghost use Rattle.cnf_core.specs.Literals.{IsWithin};
 ghost use Rattle.cnf_core.specs.Formulas.{with_clause};
-ghost use Rattle.dimacs_reader.specs.Reading.{partial_of, no_clauses, ended};
+ghost use Rattle.dimacs_reader.specs.Reading.{partial_of, no_clauses, restricting, showing_also, ended};
 
 use crate::{BadKind, Fault};
 use cnf_core::{Clause, Formula, Lit, NoMemory};
@@ -55,7 +56,7 @@ pub struct Partial {
 
 impl Model for Partial {
     ghost use Rattle.dimacs_reader.specs.Reading.{Partial, partial_of};
-    ghost use Rattle.dimacs_reader.specs.Rooms.{IsPartial};
+    ghost use Rattle.dimacs_reader.specs.Steps.Rooms.{IsPartial};
 
     ghost Value = { Partial };
 
@@ -120,6 +121,24 @@ impl Partial {
         let lits = Vec::from_slice(alloc, &self.clause)?;
         self.formula.push(Clause { lits })?;
         self.clause.clear();
+        Ok(())
+    }
+
+    /// The same over the formula that shows just what it is told to show.
+    pub fn restrict(&mut self) -> Result<(), NoMemory>
+        ensures { OnOk result (self.new ≡ restricting self.old) }
+    {
+        self.formula.restrict()?;
+        Ok(())
+    }
+
+    /// The same over the formula that shows just what it was told to show, and this variable.
+    pub fn show(&mut self, var: u32) -> Result<(), NoMemory>
+        requires { (0 < var) × (var ≤ self.old.formula.vars) }
+        ensures { OnOk result (self.new ≡ showing_also self.old var) }
+    {
+        self.formula.restrict()?;
+        self.formula.show(var);
         Ok(())
     }
 

@@ -1,7 +1,8 @@
 ghost use Rattle.std.specs.Prelude.{◌≡◌, ◌^◌, ◌+◌, ◌<◌, ◌≤◌, length, IfOk, OnOk};
-ghost use Rattle.dimacs_reader.specs.Scans.{scan_of, fresh_scan, flushed_at, after_byte, after_bytes};
-ghost use Rattle.dimacs_reader.specs.Scans.{outcome, Gives};
-ghost use Rattle.dimacs_reader.specs.Words.{byte_after};
+ghost use Rattle.dimacs_reader.specs.Scans.{Gives};
+ghost use Rattle.dimacs_reader.specs.Steps.Machine.{scan_of, fresh_scan, flushed_at, after_byte};
+ghost use Rattle.dimacs_reader.specs.Steps.Machine.{after_bytes, outcome};
+ghost use Rattle.dimacs_reader.specs.Steps.Words.{byte_after};
 ghost use Rattle.dimacs_reader.specs.declared.word.Word.TheVariants.{Nothing};
 
 use crate::ScanEnd;
@@ -57,7 +58,7 @@ pub struct Pass {
 }
 
 impl Model for Pass {
-    ghost use Rattle.dimacs_reader.specs.Scans.{Scanned, scan_of};
+    ghost use Rattle.dimacs_reader.specs.Steps.Machine.{Scanned, scan_of};
 
     ghost Value = { Scanned };
 

@@ -1,5 +1,6 @@
 ghost use Rattle.std.specs.Prelude.{◌≡◌, ◌<◌, ℕ, List, length, vec_len, IfOk};
-ghost use Rattle.dimacs_reader.specs.Feeds.{Came, ScansText, ReadsFormula, read_end_of};
+ghost use Rattle.dimacs_reader.specs.Feeds.{Came, ReadsFormula, read_end_of};
+ghost use Rattle.dimacs_reader.specs.Steps.Reads.{ScansText};
 ghost use Rattle.dimacs_reader.specs.declared.read.ReadEnd.TheVariants.{Memory};
 
 use crate::{BadKind, Scan, ScanEnd};

@@ -1,7 +1,8 @@
 ghost use Rattle.std.specs.Prelude.{◌≡◌, ◌+◌, ◌^◌, ◌≤◌, ℕ, List, ◌++◌, length, Some, IsSome};
 ghost use Rattle.std.specs.Prelude.{IsNone, IsErr, IsErrOf, OnOk, OnErr};
 ghost use Rattle.dimacs_reader.specs.Reading.{reading_of};
-ghost use Rattle.dimacs_reader.specs.Scans.{fresh_scan, Stands, byte_count, Gives};
+ghost use Rattle.dimacs_reader.specs.Scans.{Stands, byte_count, Gives};
+ghost use Rattle.dimacs_reader.specs.Steps.Machine.{fresh_scan};
 
 use crate::ScanEnd;
 use crate::pass::Pass;
@@ -19,7 +20,7 @@ pub struct Scan {
 
 impl Model for Scan {
     ghost use Rattle.std.specs.Prelude.{Option};
-    ghost use Rattle.dimacs_reader.specs.Scans.{Scanned};
+    ghost use Rattle.dimacs_reader.specs.Steps.Machine.{Scanned};
 
     ghost Value = { Option Scanned };
 

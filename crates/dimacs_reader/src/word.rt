@@ -1,6 +1,6 @@
 ghost use Rattle.std.specs.Prelude.{◌≡◌};
-ghost use Rattle.dimacs_reader.specs.Words.{digit_after, word_of_byte, byte_after, is_nothing, is_p};
-ghost use Rattle.dimacs_reader.specs.Words.{is_cnf, is_remark, is_percent};
+ghost use Rattle.dimacs_reader.specs.Steps.Words.{digit_after, word_of_byte, byte_after, is_nothing};
+ghost use Rattle.dimacs_reader.specs.Steps.Words.{is_p, is_cnf, is_c, is_show_word, is_remark, is_percent};
 
 /// What the bytes of a token so far are, as far as the format asks. It takes no memory, however
 /// long the token is.
@@ -18,6 +18,14 @@ pub enum Word {
     Cnf,
     /// Other bytes behind a `c`.
     Remark,
+    /// `s`.
+    S,
+    /// `sh`.
+    Sh,
+    /// `sho`.
+    Sho,
+    /// `show`.
+    Show,
     /// A `%`, and any bytes behind it.
     Percent,
     /// Digits, and their number, or `u32::MAX` where it is greater.
@@ -46,6 +54,7 @@ fn word_of_byte(byte: u8) -> Word
     match byte {
         b'p' => Word::P,
         b'c' => Word::C,
+        b's' => Word::S,
         b'%' => Word::Percent,
         b'-' => Word::Minus,
         _ if byte.is_ascii_digit() => Word::Digits(digit_after(0, byte)),
@@ -70,6 +79,9 @@ impl Word {
             Word::C if byte == b'n' => Word::Cn,
             Word::Cn if byte == b'f' => Word::Cnf,
             Word::C | Word::Cn | Word::Cnf | Word::Remark => Word::Remark,
+            Word::S if byte == b'h' => Word::Sh,
+            Word::Sh if byte == b'o' => Word::Sho,
+            Word::Sho if byte == b'w' => Word::Show,
             Word::Percent => Word::Percent,
             _ => Word::Other,
         }
@@ -94,6 +106,20 @@ impl Word {
         ensures { result ≡ is_cnf self }
     {
         matches!(self, Word::Cnf)
+    }
+
+    /// Whether it is `c`.
+    pub fn is_c(self) -> bool
+        ensures { result ≡ is_c self }
+    {
+        matches!(self, Word::C)
+    }
+
+    /// Whether it is `show`.
+    pub fn is_show(self) -> bool
+        ensures { result ≡ is_show_word self }
+    {
+        matches!(self, Word::Show)
     }
 
     /// Whether it begins with a `c`.

@@ -26,4 +26,15 @@ returns c = record {
   long_number = refl;
   end_in_a_clause = refl;
   end_too_soon = refl;
+  shows_two = refl;
+  shows_none = refl;
+  show_lines_join = refl;
+  show_elsewhere = refl;
+  no_show_lines = refl;
+  shows_no_such_variable = refl;
+  show_without_end = refl;
+  show_alone = refl;
+  shows_a_literal = refl;
+  shows_behind_its_end = refl;
+  shows_a_long_number = refl;
 }

@@ -1,5 +1,5 @@
 use Rattle.std.proofs.Common.{◌≡◌, ◌+◌, take}
-use Rattle.dimacs_reader.specs.Scans.{scan_of, after_bytes}
+use Rattle.dimacs_reader.specs.Steps.Machine.{scan_of, after_bytes}
 use Rattle.dimacs_reader.proofs.pass.Pass.read.Given as goal
 
 abbrev pub invariant-loop-byte : goal.invariant-loop-byte

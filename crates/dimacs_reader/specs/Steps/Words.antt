@@ -6,6 +6,7 @@ use Rattle.cnf_core.specs.Literals.{Literal}
 use Rattle.dimacs_reader.specs.Numbers.{capped, negative_of, positive_of}
 use Rattle.dimacs_reader.specs.declared.word.Word.{Word}
 use Rattle.dimacs_reader.specs.declared.word.Word.TheVariants.{Nothing, P, C, Cn, Cnf, Remark}
+use Rattle.dimacs_reader.specs.declared.word.Word.TheVariants.{S, Sh, Sho, Show}
 use Rattle.dimacs_reader.specs.declared.word.Word.TheVariants.{Percent, Digits, Minus, Negative}
 use Rattle.dimacs_reader.specs.declared.word.Word.TheVariants.{Other}
 
@@ -17,9 +18,10 @@ abbrev pub word_of_byte : ℕ → Word
 word_of_byte b =
     if b == 112 then P
     else (if b == 99 then C
+    else (if b == 115 then S
     else (if b == 37 then Percent
     else (if b == 45 then Minus
-    else (if is_ascii_digit b then Digits (digit_after 0 b) else Other))))
+    else (if is_ascii_digit b then Digits (digit_after 0 b) else Other)))))
 
 -- the token with one byte more
 abbrev pub byte_after : Word → ℕ → Word
@@ -29,6 +31,10 @@ byte_after C b = if b == 110 then Cn else Remark
 byte_after Cn b = if b == 102 then Cnf else Remark
 byte_after Cnf b = Remark
 byte_after Remark b = Remark
+byte_after S b = if b == 104 then Sh else Other
+byte_after Sh b = if b == 111 then Sho else Other
+byte_after Sho b = if b == 119 then Show else Other
+byte_after Show b = Other
 byte_after Percent b = Percent
 byte_after (Digits n) b = if is_ascii_digit b then Digits (digit_after n b) else Other
 byte_after Minus b = if is_ascii_digit b then Negative (digit_after 0 b) else Other
@@ -49,6 +55,14 @@ is_p w = false
 abbrev pub is_cnf : Word → Bool
 is_cnf Cnf = true
 is_cnf w = false
+
+abbrev pub is_c : Word → Bool
+is_c C = true
+is_c w = false
+
+abbrev pub is_show_word : Word → Bool
+is_show_word Show = true
+is_show_word w = false
 
 -- whether it begins with a `c`
 abbrev pub is_remark : Word → Bool

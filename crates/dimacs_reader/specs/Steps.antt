@@ -1,0 +1,4 @@
+pub mod Words
+pub mod Rooms
+pub mod Machine
+pub mod Reads
