@@ -4,7 +4,8 @@ use Rattle.bone_desk.specs.declared.desk.Port.{Port}
 use Rattle.bone_desk.specs.declared.desk.Act.TheVariants.{Write}
 use Rattle.bone_desk.specs.Told.{Told, Gave, Rose, WritesOnly}
 use Rattle.bone_desk.specs.Gives.{GaveFront, Owes, Waiting, Pushed, CutOff}
-use Rattle.bone_desk.proofs.Steps.{owes_none, owes_all, owes_more, front_longer, front_more, front_owed, rose_later, writes_none, writes_more}
+use Rattle.bone_desk.proofs.Steps.{owes_none, owes_all, owes_more, front_longer, front_more, front_owed, rose_later, writes_none}
+use Rattle.bone_desk.proofs.Steps.{writes_more}
 
 -- the bytes by another spelling
 pub owes_as : {p : Port} {waiting xs ys : List ℕ} {a b : Told} → xs ≡ ys → Owes p waiting xs a b → Owes p waiting ys a b
@@ -19,8 +20,8 @@ pushed_as {xs} {ys} {u} {v} {a} {b} e pushed = let P : List ℕ → Type 0 = λ 
 pub cut_as : {xs ys : List ℕ} {u : Waiting} {a b : Told} → xs ≡ ys → CutOff xs u a b → CutOff ys u a b
 cut_as {xs} {ys} {u} {a} {b} e cut = let P : List ℕ → Type 0 = λ all. CutOff all u a b in subst P e cut
 
--- what was given to one port, where that is another name of it
-at_port : {p q : Port} (P : Port → Type 0) → q ≡ p → P q → P p
+-- what holds of a port, by another name of it
+pub at_port : {p q : Port} (P : Port → Type 0) → q ≡ p → P q → P p
 at_port P e here = subst P e here
 
 -- nothing was pushed
