@@ -3,7 +3,7 @@ use Rattle.std.specs.Prelude.{◌≢◌, ℕ, List, [], ◌∷◌, ◌++◌, All
 use Rattle.std.specs.List.{flat_map}
 use Rattle.cnf_core.specs.Literals.{Literal, Literals, Assignment, RisesByVar}
 use Rattle.cnf_core.specs.Spelling.{literal_text}
-use Rattle.cnf_core.specs.Formulas.{Cnf, models, backbone}
+use Rattle.cnf_core.specs.Formulas.{Cnf, models, shown_backbone}
 use Rattle.answer_text.specs.declared.answer.Answer.{Answer}
 use Rattle.answer_text.specs.declared.answer.Answer.TheVariants.{Unsat, Sat, Partial, Unknown}
 
@@ -62,11 +62,11 @@ IsInOrder (Sat fixed) = RisesByVar fixed.items
 IsInOrder (Partial fixed still) = IsPartialInOrder fixed.items still.items
 IsInOrder Unknown = Unit {0}
 
--- the text that a list of models and a backbone make
+-- the text that a list of models and the literals to be named make
 abbrev pub verdict_text : List Assignment → Literals → List ℕ
 verdict_text [] fixed = unsat_text
 verdict_text (a ∷ more) fixed = sat_text fixed
 
--- the answer of a formula: that it has no model, or its backbone
+-- the answer of a formula: that it has no model, or the members of its backbone whose variables are shown
 unfoldable pub answer_text : Cnf → List ℕ
-answer_text F = verdict_text (models F) (backbone F)
+answer_text F = verdict_text (models F) (shown_backbone F)

@@ -1,7 +1,7 @@
 //! Writing an answer to its port.
-ghost use Rattle.std.specs.Prelude.{◌≡◌, ◌++◌, codes, OnOk, OnErr};
+ghost use Rattle.std.specs.Prelude.{◌≡◌, OnOk, OnErr};
 ghost use Rattle.bone_desk.specs.Told.{Rose, WritesOnly, Gave};
-ghost use Rattle.bone_desk.specs.Gives.{GaveFront, Owes};
+ghost use Rattle.bone_desk.specs.Gives.{GaveFront, Pushed, CutOff};
 ghost use Rattle.cnf_core.specs.Spelling.{literal_text};
 ghost use Rattle.answer_text.specs.AnswerText.{IsInOrder, text_of, literal_line, literal_lines, groups_text};
 
@@ -40,9 +40,9 @@ pub fn write_answer<D: Desk>(desk: &mut D, answer: &Answer) -> Result<(), WriteF
     ensures only { WritesOnly Port.Answer (D.told desk.old) (D.told desk.new) }
     ensures cause { OnErr result (Rose (Act.Write Port.Answer) (D.told desk.old) (D.told desk.new)) }
 {
-    let mut buffer = PortBuffer::new();
+    let mut buffer = PortBuffer::new(Port::Answer);
     push_answer(desk, &mut buffer, answer)?;
-    buffer.flush(desk, Port::Answer)?;
+    buffer.flush(desk)?;
     Ok(())
 }
 
@@ -52,18 +52,14 @@ fn push_answer<D: Desk>(
     buffer: &mut PortBuffer,
     answer: &Answer,
 ) -> Result<(), Failed>
-    ensures owes { OnOk result (Owes Port.Answer buffer.new (buffer.old ++ text_of answer.now)
-        (D.told desk.old) (D.told desk.new)) }
-    ensures front { OnErr result (GaveFront Port.Answer (buffer.old ++ text_of answer.now)
-        (D.told desk.old) (D.told desk.new)) }
-    ensures only { WritesOnly Port.Answer (D.told desk.old) (D.told desk.new) }
-    ensures cause { OnErr result (Rose (Act.Write Port.Answer) (D.told desk.old) (D.told desk.new)) }
+    ensures ok { OnOk result (Pushed (text_of answer.now) buffer.old buffer.new (D.told desk.old) (D.told desk.new)) }
+    ensures err { OnErr result (CutOff (text_of answer.now) buffer.old (D.told desk.old) (D.told desk.new)) }
 {
     match answer {
-        Answer::Unsat => buffer.push(desk, Port::Answer, b"s UNSATISFIABLE\n"),
+        Answer::Unsat => buffer.push(desk, b"s UNSATISFIABLE\n"),
         Answer::Sat(fixed) => push_groups(desk, buffer, b"s SATISFIABLE\n", fixed, &[]),
         Answer::Partial { fixed, still } => push_groups(desk, buffer, b"s PARTIAL\n", fixed, still),
-        Answer::Unknown => buffer.push(desk, Port::Answer, b"s UNKNOWN\n"),
+        Answer::Unknown => buffer.push(desk, b"s UNKNOWN\n"),
     }
 }
 
@@ -76,19 +72,15 @@ fn push_groups<D: Desk>(
     fixed: &[Lit],
     still: &[Lit],
 ) -> Result<(), Failed>
-    ensures owes { OnOk result
-        (Owes Port.Answer buffer.new (buffer.old ++ groups_text verdict.now fixed.now still.now)
+    ensures ok { OnOk result (Pushed (groups_text verdict.now fixed.now still.now) buffer.old buffer.new
         (D.told desk.old) (D.told desk.new)) }
-    ensures front { OnErr result
-        (GaveFront Port.Answer (buffer.old ++ groups_text verdict.now fixed.now still.now)
+    ensures err { OnErr result (CutOff (groups_text verdict.now fixed.now still.now) buffer.old
         (D.told desk.old) (D.told desk.new)) }
-    ensures only { WritesOnly Port.Answer (D.told desk.old) (D.told desk.new) }
-    ensures cause { OnErr result (Rose (Act.Write Port.Answer) (D.told desk.old) (D.told desk.new)) }
 {
-    buffer.push(desk, Port::Answer, verdict)?;
+    buffer.push(desk, verdict)?;
     push_lines(desk, buffer, b'b', fixed)?;
     push_lines(desk, buffer, b'u', still)?;
-    buffer.push(desk, Port::Answer, b"b 0\n")
+    buffer.push(desk, b"b 0\n")
 }
 
 /// A line for each literal, with this letter.
@@ -98,14 +90,10 @@ fn push_lines<D: Desk>(
     letter: u8,
     lits: &[Lit],
 ) -> Result<(), Failed>
-    ensures owes { OnOk result
-        (Owes Port.Answer buffer.new (buffer.old ++ literal_lines letter lits.now)
+    ensures ok { OnOk result (Pushed (literal_lines letter lits.now) buffer.old buffer.new
         (D.told desk.old) (D.told desk.new)) }
-    ensures front { OnErr result
-        (GaveFront Port.Answer (buffer.old ++ literal_lines letter lits.now)
+    ensures err { OnErr result (CutOff (literal_lines letter lits.now) buffer.old
         (D.told desk.old) (D.told desk.new)) }
-    ensures only { WritesOnly Port.Answer (D.told desk.old) (D.told desk.new) }
-    ensures cause { OnErr result (Rose (Act.Write Port.Answer) (D.told desk.old) (D.told desk.new)) }
 {
     for lit in lits {
         push_line(desk, buffer, letter, *lit)?;
@@ -120,17 +108,14 @@ fn push_line<D: Desk>(
     letter: u8,
     lit: Lit,
 ) -> Result<(), Failed>
-    ensures owes { OnOk result (Owes Port.Answer buffer.new (buffer.old ++ literal_line letter lit)
+    ensures ok { OnOk result (Pushed (literal_line letter lit) buffer.old buffer.new
         (D.told desk.old) (D.told desk.new)) }
-    ensures front { OnErr result (GaveFront Port.Answer (buffer.old ++ literal_line letter lit)
-        (D.told desk.old) (D.told desk.new)) }
-    ensures only { WritesOnly Port.Answer (D.told desk.old) (D.told desk.new) }
-    ensures cause { OnErr result (Rose (Act.Write Port.Answer) (D.told desk.old) (D.told desk.new)) }
+    ensures err { OnErr result (CutOff (literal_line letter lit) buffer.old (D.told desk.old) (D.told desk.new)) }
 {
     let mut digits = Buffer::new();
-    buffer.push(desk, Port::Answer, &[letter, b' '])?;
-    buffer.push(desk, Port::Answer, literal_bytes(&mut digits, lit))?;
-    buffer.push(desk, Port::Answer, b"\n")
+    buffer.push(desk, &[letter, b' '])?;
+    buffer.push(desk, literal_bytes(&mut digits, lit))?;
+    buffer.push(desk, b"\n")
 }
 
 /// The literal's number, as bytes in this buffer.

@@ -1,5 +1,7 @@
 -- What is known once the first k assignments are looked at, and once all are.
-use Rattle.std.proofs.Common.{◌≡◌, ℕ, zero, suc, ◌^◌, ◌<◌, ◌≤◌, Bool, true, false, cond, not, ◌&&◌, ◌||◌, if◌then◌else◌, IsTrue, IsNone, IfSome, List, [], ◌∷◌, ◌++◌, filter, ◌↔◌, Option, Global, MatchOption, None, Some, Vec, refl, sym, ap, ap₂, ◌∙◌, subst, ⊎_elim, eq-or-lt_of_le, arith}
+use Rattle.std.proofs.Common.{◌≡◌, ℕ, zero, suc, ◌^◌, ◌<◌, ◌≤◌, Bool, true, false, cond, not, ◌&&◌, ◌||◌, if◌then◌else◌, IsTrue}
+use Rattle.std.proofs.Common.{IsNone, IfSome, List, [], ◌∷◌, ◌++◌, filter, ◌↔◌, Option, Global, MatchOption, None, Some, Vec, refl}
+use Rattle.std.proofs.Common.{sym, ap, ap₂, ◌∙◌, subst, ⊎_elim, eq-or-lt_of_le, arith}
 use Rattle.std.proofs.Math.Bool.{and-true}
 use Rattle.std.proofs.lemmas.Bool.{cases_Bool, and_parts, and_from, or_left, or_right, both_ways, cond-true, false_from_ne_true, false≢true}
 use Rattle.std.proofs.lemmas.List.Elements.{filter_agree, filter-append, All-filter}
@@ -8,7 +10,7 @@ use Rattle.cnf_core.specs.Formulas.{Cnf, models, IsModel, entails, backbone, tru
 use Rattle.cnf_core.proofs.Truth.{true_literals_within}
 use Rattle.cnf_core.proofs.Models.{models-nil, no_model, entails_by, entails_at}
 use Rattle.cnf_core.proofs.Backbones.{backbone_of_model}
-use Rattle.backbone_main.specs.Numbered.{assignment_at}
+use Rattle.backbone_main.specs.Steps.Numbered.{assignment_at}
 use Rattle.backbone_main.proofs.Numbering.{length-assignment_at, number_of_values, assignment_at-number_of_values, number_of_values-lt}
 
 -- whether the assignment with this number makes every clause true
@@ -76,7 +78,7 @@ common_below-none F (suc k) none l =
     let before : HasNoneBelow F k = record { none = λ j below. none.none j (omega arith) } in
     sym (common_below-skip F k (none.none k (omega arith)) l) ∙ common_below-none F k before l
 
-is_model_at : (F : Cnf) (k : ℕ) → holds_at F k ≡ true → IsModel F (assignment_at F.vars k)
+pub is_model_at : (F : Cnf) (k : ℕ) → holds_at F k ≡ true → IsModel F (assignment_at F.vars k)
 is_model_at F k holds = record { values = length-assignment_at F.vars k; satisfied = holds }
 
 -- a step of the loop

@@ -1,8 +1,10 @@
 -- The assignment with a number, and the number of an assignment.
-use Rattle.std.proofs.Common.{◌≡◌, ℕ, zero, suc, ◌+◌, ◌-◌, ◌*◌, ◌/◌, ◌%◌, ◌^◌, ◌<◌, ◌≤◌, ◌==◌, Bool, true, false, if◌then◌else◌, [], ◌∷◌, ◌++◌, length, set, take, refl, sym, ap, ◌∙◌, ap₂, append-nil, append_assoc, take_all, length-set, pow-suc, eq-eqb, ne_eqb, arith}
+use Rattle.std.proofs.Common.{◌≡◌, ℕ, zero, suc, ◌+◌, ◌-◌, ◌*◌, ◌/◌, ◌%◌, ◌^◌, ◌<◌, ◌≤◌, ◌==◌, Bool, true, false, if◌then◌else◌, []}
+use Rattle.std.proofs.Common.{◌∷◌, ◌++◌, length, set, take, refl, sym, ap, ◌∙◌, ap₂, append-nil, append_assoc, take_all, length-set}
+use Rattle.std.proofs.Common.{pow-suc, eq-eqb, ne_eqb, arith}
 use Rattle.std.proofs.lemmas.List.{take_more_set}
 use Rattle.cnf_core.specs.Literals.{Assignment}
-use Rattle.backbone_main.specs.Numbered.{assignment_at}
+use Rattle.backbone_main.specs.Steps.Numbered.{assignment_at}
 
 pub length-assignment_at : (n number : ℕ) → length (assignment_at n number) ≡ n
 length-assignment_at zero number = refl

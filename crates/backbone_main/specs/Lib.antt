@@ -1,5 +1,4 @@
 pub mod Words
 pub mod Notes
 pub mod Outcome
-pub mod Finish
-pub mod Numbered
+pub mod Steps

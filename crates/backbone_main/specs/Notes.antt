@@ -8,7 +8,8 @@ use Rattle.dimacs_reader.specs.declared.fault.BadKind.{BadKind}
 use Rattle.dimacs_reader.specs.declared.fault.BadKind.TheVariants as kind
 use Rattle.dimacs_reader.specs.declared.fault.Fault.{Fault}
 use Rattle.backbone_main.specs.declared.ending.Ending.{Ending}
-use Rattle.backbone_main.specs.declared.ending.Ending.TheVariants.{Complete, Unsatisfiable, OutOfMemory, BadText, TooLong, NotBuilt, ReadFault, WriteFault, OpenFault, Usage}
+use Rattle.backbone_main.specs.declared.ending.Ending.TheVariants.{Complete, Unsatisfiable, OutOfMemory, BadText, TooLong}
+use Rattle.backbone_main.specs.declared.ending.Ending.TheVariants.{NotBuilt, ReadFault, WriteFault, OpenFault, Usage}
 
 -- the number of a kind of fault
 abbrev pub kind_number : BadKind → ℕ
@@ -20,6 +21,7 @@ kind_number kind.TooManyClauses = 5
 kind_number kind.TooFewClauses = 6
 kind_number kind.Unended = 7
 kind_number kind.OverLimit = 8
+kind_number kind.BadShow = 9
 
 -- the kind and the place of a text's first fault
 abbrev pub fault_note : Fault → List ℕ

@@ -14,7 +14,8 @@ use Rattle.dimacs_reader.specs.Reading.{reading_of}
 use Rattle.dimacs_reader.specs.Feeds.{IsTooLong, IsReadFault, IsReadAs}
 use Rattle.answer_text.specs.AnswerText.{answer_text}
 use Rattle.backbone_main.specs.declared.ending.Ending.{Ending}
-use Rattle.backbone_main.specs.declared.ending.Ending.TheVariants.{Complete, Unsatisfiable, OutOfMemory, BadText, TooLong, NotBuilt, ReadFault, WriteFault, OpenFault, Usage}
+use Rattle.backbone_main.specs.declared.ending.Ending.TheVariants.{Complete, Unsatisfiable, OutOfMemory, BadText, TooLong}
+use Rattle.backbone_main.specs.declared.ending.Ending.TheVariants.{NotBuilt, ReadFault, WriteFault, OpenFault, Usage}
 use Rattle.backbone_main.specs.Notes.{note_of, GainsNote}
 
 -- the status of an ending

@@ -1,15 +1,16 @@
 //! The top call: a run of the program with one worker, from the words of the command line to the status.
 ghost use Rattle.std.specs.Prelude.{◌≡◌, ◌↔◌, ◌⊎◌, ◌<◌, ◌≤◌, List, ℕ, Some, None, Ok, Err, IsSome, map};
 ghost use Rattle.std.specs.String.{string_bytes};
-ghost use Rattle.bone_desk.specs.Told.{Touches, WritesOnly};
+ghost use Rattle.bone_desk.specs.Told.{WritesOnly};
 ghost use Rattle.cnf_core.specs.Formulas.{Cnf};
 ghost use Rattle.dimacs_reader.specs.Feeds.{IsTooLong};
 ghost use Rattle.dimacs_reader.specs.declared.fault.Fault.{Fault};
 ghost use Rattle.answer_text.specs.AnswerText.{IsInOrder, text_of};
 ghost use Rattle.backbone_main.specs.Words.{settings_of};
 ghost use Rattle.backbone_main.specs.Notes.{note_of, GainsNote};
-ghost use Rattle.backbone_main.specs.Outcome.{Accounts, ChangesItsOwn, EndsWith, IsFaultless, IsGiven, IsSmall, Means, code_of};
-ghost use Rattle.backbone_main.specs.Finish.{EndsWriting, Finishes};
+ghost use Rattle.backbone_main.specs.Outcome.{Accounts, ChangesItsOwn, EndsWith, IsFaultless, IsGiven, IsSmall};
+ghost use Rattle.backbone_main.specs.Outcome.{Means, code_of};
+ghost use Rattle.backbone_main.specs.Steps.Finish.{EndsWriting, Finishes, Touches};
 
 use crate::ending::Ending;
 use crate::enumeration::{MOST_VARS, solve};
@@ -25,7 +26,7 @@ use std::alloc::Global;
 ///
 /// | Status | What happened |
 /// |---|---|
-/// | 10 | the backbone was written |
+/// | 10 | the backbone was written: its literals whose variables are shown |
 /// | 20 | the formula has no model, and that was written |
 /// | 40 | there was too little memory; no answer was written |
 /// | 50 | the text means no formula; no answer was written |
@@ -79,7 +80,7 @@ pub fn report<D: Desk>(desk: &mut D, ending: Ending) -> u8
 /// Does what the words ask for, but for the note.
 fn run<D: Desk>(alloc: Global, words: &[String], desk: &mut D) -> Ending
     ensures accounts { Accounts result (D.told desk.old) (D.told desk.new) }
-    ensures touches { Touches Feed.Text Port.Answer (D.told desk.old) (D.told desk.new) }
+    ensures touches { Touches (D.told desk.old) (D.told desk.new) }
     ensures usage { (result ≡ Ending.Usage) ↔ (settings_of (map string_bytes words.now) ≡ None) }
 {
     match Settings::from_words(words) {
@@ -91,7 +92,7 @@ fn run<D: Desk>(alloc: Global, words: &[String], desk: &mut D) -> Ending
 /// Reads the text of this name, and writes the answer of its formula.
 fn extract<D: Desk>(alloc: Global, name: &str, desk: &mut D) -> Ending
     ensures accounts { Accounts result (D.told desk.old) (D.told desk.new) }
-    ensures touches { Touches Feed.Text Port.Answer (D.told desk.old) (D.told desk.new) }
+    ensures touches { Touches (D.told desk.old) (D.told desk.new) }
     ensures not_usage { result ≡ Ending.Usage → ⊥ }
 {
     if desk.open_feed(Feed::Text, name).is_err() {

@@ -1,27 +1,44 @@
 ghost use Rattle.std.specs.Prelude.{◌≡◌, ◌↔◌, ◌^◌, ◌≤◌, [], length, filter, IsNone, IfOk, IfSome, MatchOption};
 ghost use Rattle.std.specs.Option.{ForSome};
-ghost use Rattle.cnf_core.specs.Literals.{is_true, clause_true, all_true, IsWithin, AreWithin};
-ghost use Rattle.cnf_core.specs.Formulas.{models, backbone, true_literals};
-ghost use Rattle.backbone_main.specs.Numbered.{assignment_at};
+ghost use Rattle.cnf_core.specs.Literals.{is_true as is_true_in, AreWithin};
+ghost use Rattle.cnf_core.specs.Formulas.{models, backbone, shown_backbone, is_shown, true_literals};
+ghost use Rattle.backbone_main.specs.Steps.Numbered.{assignment_at};
 
-use cnf_core::{Clause, Formula, Lit, NoMemory, Values};
+use cnf_core::{Formula, Lit, NoMemory, Values};
+use model_check::{is_model, is_true};
 use std::alloc::Global;
 
 /// The most variables of a formula whose assignments are all looked at.
 pub const MOST_VARS: u32 = 12;
 
-/// The backbone of a formula of at most [`MOST_VARS`] variables, or `None` where it has no model.
+/// The shown part of the backbone of a formula of at most [`MOST_VARS`] variables, or `None` where it has
+/// no model.
 ///
-/// The literals are those that every model makes true, by variable. All assignments are looked at,
-/// so the time doubles with each variable.
+/// The literals are those of shown variables that every model makes true, by variable. All assignments are
+/// looked at, so the time doubles with each variable.
+#[tactic(auto, unfolding(cnf_core::specs::Formulas::shown_backbone))]
 pub fn solve(alloc: Global, formula: &Formula) -> Result<Option<Vec<Lit>>, NoMemory>
     requires { formula.now.vars ≤ MOST_VARS }
     ensures unsatisfiable { IfOk result (λ answer. IsNone answer ↔ (models formula.now ≡ [])) }
     ensures backbone { IfOk result (λ answer.
-        IfSome answer (λ lits. lits.items ≡ backbone formula.now)) }
+        IfSome answer (λ lits. lits.items ≡ shown_backbone formula.now)) }
 {
     let mut values = Values::new(alloc, formula.vars())?;
-    common_literals(alloc, formula, &mut values)
+    match common_literals(alloc, formula, &mut values)? {
+        Some(fixed) => Ok(Some(shown_ones(alloc, formula, &fixed)?)),
+        None => Ok(None),
+    }
+}
+
+/// Those of the literals whose variables are shown.
+fn shown_ones(alloc: Global, formula: &Formula, lits: &[Lit]) -> Result<Vec<Lit>, NoMemory>
+    ensures { IfOk result (λ kept. kept.items ≡ filter (λ l. is_shown formula.now l.var) lits.now) }
+{
+    let kept = lits
+        .iter()
+        .copied()
+        .filter(|lit| formula.is_shown(lit.var()));
+    Ok(kept.collect(alloc)?)
 }
 
 /// The literals that are true in every model, or `None` where there is no model. The values are
@@ -40,7 +57,7 @@ fn common_literals(
     let mut common = None;
     for number in 0..assignment_count(formula.vars()) {
         write_assignment(values, number);
-        if satisfies(values, formula) {
+        if is_model(formula, values) {
             common = Some(narrowed(alloc, common, values)?);
         }
     }
@@ -67,33 +84,6 @@ fn write_assignment(values: &mut Values, number: u32)
     }
 }
 
-/// Whether the values make every clause true.
-fn satisfies(values: &Values, formula: &Formula) -> bool
-    requires { length values.now ≡ formula.now.vars }
-    ensures { result ≡ all_true values.now formula.now.clauses }
-{
-    formula
-        .clauses()
-        .iter()
-        .all(|clause| clause_holds(values, clause))
-}
-
-/// Whether the values make some literal of the clause true.
-fn clause_holds(values: &Values, clause: &Clause) -> bool
-    requires { AreWithin (length values.now) clause.now }
-    ensures { result ≡ clause_true values.now clause.now }
-{
-    clause.lits.iter().any(|lit| holds(values, *lit))
-}
-
-/// Whether the values make the literal true.
-fn holds(values: &Values, lit: Lit) -> bool
-    requires { IsWithin (length values.now) lit }
-    ensures { result ≡ is_true values.now lit }
-{
-    values.get(lit.var()) == lit.positive()
-}
-
 /// Of the literals that are common to the models so far, those that are true in one model more.
 /// Where it is the first, they are all of its own.
 fn narrowed(alloc: Global, common: Option<Vec<Lit>>, model: &Values) -> Result<Vec<Lit>, NoMemory>
@@ -101,7 +91,7 @@ fn narrowed(alloc: Global, common: Option<Vec<Lit>>, model: &Values) -> Result<V
     requires within { ForSome common (λ lits. AreWithin (length model.now) lits.items) }
     ensures { IfOk result (λ lits. MatchOption common
         (lits.items ≡ true_literals model.now (length model.now))
-        (λ before. lits.items ≡ filter (is_true model.now) before.items)) }
+        (λ before. lits.items ≡ filter (is_true_in model.now) before.items)) }
 {
     match common {
         None => literals_of(alloc, model),
@@ -112,9 +102,9 @@ fn narrowed(alloc: Global, common: Option<Vec<Lit>>, model: &Values) -> Result<V
 /// Those of the literals that are true.
 fn true_ones(alloc: Global, lits: &[Lit], values: &Values) -> Result<Vec<Lit>, NoMemory>
     requires { AreWithin (length values.now) lits.now }
-    ensures { IfOk result (λ kept. kept.items ≡ filter (is_true values.now) lits.now) }
+    ensures { IfOk result (λ kept. kept.items ≡ filter (is_true_in values.now) lits.now) }
 {
-    let kept = lits.iter().copied().filter(|lit| holds(values, *lit));
+    let kept = lits.iter().copied().filter(|lit| is_true(*lit, values));
     Ok(kept.collect(alloc)?)
 }
 
@@ -134,6 +124,7 @@ fn literals_of(alloc: Global, values: &Values) -> Result<Vec<Lit>, NoMemory>
 #[cfg(test)]
 mod tests {
     use super::*;
+    use cnf_core::Clause;
     use std::process::Abort;
     use std::test::Fail;
 

@@ -1,7 +1,7 @@
 //! The note for the user that a run ends with: one line on the Notes port, or nothing.
 ghost use Rattle.std.specs.Prelude.{◌≡◌, ◌++◌, decimal, OnOk, OnErr};
 ghost use Rattle.bone_desk.specs.Told.{Rose, WritesOnly, Gave};
-ghost use Rattle.bone_desk.specs.Gives.{GaveFront, Owes};
+ghost use Rattle.bone_desk.specs.Gives.{GaveFront, Pushed, CutOff};
 ghost use Rattle.backbone_main.specs.Notes.{note_of, fault_note, kind_number};
 
 use crate::ending::Ending;
@@ -20,44 +20,36 @@ pub fn write_note<D: Desk>(desk: &mut D, ending: Ending) -> Result<(), Failed>
     ensures only { WritesOnly Port.Notes (D.told desk.old) (D.told desk.new) }
     ensures cause { OnErr result (Rose (Act.Write Port.Notes) (D.told desk.old) (D.told desk.new)) }
 {
-    let mut buffer = PortBuffer::new();
+    let mut buffer = PortBuffer::new(Port::Notes);
     push_note(desk, &mut buffer, ending)?;
-    buffer.flush(desk, Port::Notes)
+    buffer.flush(desk)
 }
 
 /// The line of the note, where there is one.
 fn push_note<D: Desk>(desk: &mut D, buffer: &mut PortBuffer, ending: Ending) -> Result<(), Failed>
-    ensures owes { OnOk result (Owes Port.Notes buffer.new (buffer.old ++ note_of ending)
-        (D.told desk.old) (D.told desk.new)) }
-    ensures front { OnErr result (GaveFront Port.Notes (buffer.old ++ note_of ending)
-        (D.told desk.old) (D.told desk.new)) }
-    ensures only { WritesOnly Port.Notes (D.told desk.old) (D.told desk.new) }
-    ensures cause { OnErr result (Rose (Act.Write Port.Notes) (D.told desk.old) (D.told desk.new)) }
+    ensures ok { OnOk result (Pushed (note_of ending) buffer.old buffer.new (D.told desk.old) (D.told desk.new)) }
+    ensures err { OnErr result (CutOff (note_of ending) buffer.old (D.told desk.old) (D.told desk.new)) }
 {
     match ending {
         Ending::Complete | Ending::Unsatisfiable | Ending::NotBuilt => Ok(()),
-        Ending::OutOfMemory => buffer.push(desk, Port::Notes, b"error: out of memory\n"),
+        Ending::OutOfMemory => buffer.push(desk, b"error: out of memory\n"),
         Ending::BadText(fault) => push_fault(desk, buffer, fault),
-        Ending::TooLong => buffer.push(desk, Port::Notes, b"error: text too long\n"),
-        Ending::ReadFault => buffer.push(desk, Port::Notes, b"error: read failed: text\n"),
-        Ending::WriteFault => buffer.push(desk, Port::Notes, b"error: write failed: answer\n"),
-        Ending::OpenFault => buffer.push(desk, Port::Notes, b"error: open failed: text\n"),
-        Ending::Usage => buffer.push(desk, Port::Notes, USAGE),
+        Ending::TooLong => buffer.push(desk, b"error: text too long\n"),
+        Ending::ReadFault => buffer.push(desk, b"error: read failed: text\n"),
+        Ending::WriteFault => buffer.push(desk, b"error: write failed: answer\n"),
+        Ending::OpenFault => buffer.push(desk, b"error: open failed: text\n"),
+        Ending::Usage => buffer.push(desk, USAGE),
     }
 }
 
 /// The kind and the place of the text's first fault.
 fn push_fault<D: Desk>(desk: &mut D, buffer: &mut PortBuffer, fault: Fault) -> Result<(), Failed>
-    ensures owes { OnOk result (Owes Port.Notes buffer.new (buffer.old ++ fault_note fault)
-        (D.told desk.old) (D.told desk.new)) }
-    ensures front { OnErr result (GaveFront Port.Notes (buffer.old ++ fault_note fault)
-        (D.told desk.old) (D.told desk.new)) }
-    ensures only { WritesOnly Port.Notes (D.told desk.old) (D.told desk.new) }
-    ensures cause { OnErr result (Rose (Act.Write Port.Notes) (D.told desk.old) (D.told desk.new)) }
+    ensures ok { OnOk result (Pushed (fault_note fault) buffer.old buffer.new (D.told desk.old) (D.told desk.new)) }
+    ensures err { OnErr result (CutOff (fault_note fault) buffer.old (D.told desk.old) (D.told desk.new)) }
 {
     push_number(desk, buffer, b"error: text kind ", kind_number(fault.kind))?;
     push_number(desk, buffer, b" at byte ", fault.place)?;
-    buffer.push(desk, Port::Notes, b"\n")
+    buffer.push(desk, b"\n")
 }
 
 /// Some words, and a number.
@@ -67,18 +59,14 @@ fn push_number<D: Desk>(
     words: &[u8],
     number: u64,
 ) -> Result<(), Failed>
-    ensures owes { OnOk result
-        (Owes Port.Notes buffer.new (buffer.old ++ (words.now ++ decimal number))
+    ensures ok { OnOk result (Pushed (words.now ++ decimal number) buffer.old buffer.new
         (D.told desk.old) (D.told desk.new)) }
-    ensures front { OnErr result
-        (GaveFront Port.Notes (buffer.old ++ (words.now ++ decimal number))
+    ensures err { OnErr result (CutOff (words.now ++ decimal number) buffer.old
         (D.told desk.old) (D.told desk.new)) }
-    ensures only { WritesOnly Port.Notes (D.told desk.old) (D.told desk.new) }
-    ensures cause { OnErr result (Rose (Act.Write Port.Notes) (D.told desk.old) (D.told desk.new)) }
 {
     let mut digits = Buffer::new();
-    buffer.push(desk, Port::Notes, words)?;
-    buffer.push(desk, Port::Notes, decimal_bytes(&mut digits, number))
+    buffer.push(desk, words)?;
+    buffer.push(desk, decimal_bytes(&mut digits, number))
 }
 
 /// The number in decimal digits, as bytes in this buffer.
@@ -101,5 +89,6 @@ fn kind_number(kind: BadKind) -> u64
         BadKind::TooFewClauses => 6,
         BadKind::Unended => 7,
         BadKind::OverLimit => 8,
+        BadKind::BadShow => 9,
     }
 }

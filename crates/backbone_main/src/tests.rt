@@ -2,13 +2,15 @@
 ghost use Rattle.std.specs.Prelude.{◌≡◌, ◌≤◌, vec_len, IfOk};
 
 use crate::alone::alone;
-use bone_desk::{MemDesk, QuietDesk};
+use bone_desk::{MemDesk, NamedDesk};
 use std::alloc::{AllocError, Global};
 use std::test::Fail;
 
 const CHAIN: &[u8] = b"p cnf 3 3\n1 0\n-1 2 0\n2 3 0\n";
 
 const CHAIN_ANSWER: &[u8] = b"s SATISFIABLE\nb 1\nb 2\nb 0\n";
+
+const EMPTY_ANSWER: &[u8] = b"s SATISFIABLE\nb 0\n";
 
 const USAGE: &[u8] = b"usage: backbone extract|check|sample [options] [names]\n";
 
@@ -37,7 +39,7 @@ fn each_text_gives_its_answer_in_pieces_of_any_size(rt: HostRuntime) -> Result<(
     let words = owned(alloc, &["extract", "f"])?;
     let rows: [(&[u8], u8, &[u8]); 12] = [
         (CHAIN, 10, CHAIN_ANSWER),
-        (b"p cnf 0 0\n", 10, b"s SATISFIABLE\nb 0\n"),
+        (b"p cnf 0 0\n", 10, EMPTY_ANSWER),
         (b"p cnf 1 2\n1 0\n-1 0\n", 20, b"s UNSATISFIABLE\n"),
         (b"p cnf 1 1\n0\n", 20, b"s UNSATISFIABLE\n"),
         (
@@ -45,8 +47,8 @@ fn each_text_gives_its_answer_in_pieces_of_any_size(rt: HostRuntime) -> Result<(
             10,
             b"s SATISFIABLE\nb 1\nb 0\n",
         ),
-        (b"p cnf 2 1\n1 2 0\n", 10, b"s SATISFIABLE\nb 0\n"),
-        (b"p cnf 3 1\n1 -1 0\n", 10, b"s SATISFIABLE\nb 0\n"),
+        (b"p cnf 2 1\n1 2 0\n", 10, EMPTY_ANSWER),
+        (b"p cnf 3 1\n1 -1 0\n", 10, EMPTY_ANSWER),
         (b"p cnf 2 1\n2 2 0\n", 10, b"s SATISFIABLE\nb 2\nb 0\n"),
         (
             b"p cnf 12 2\n-12 0\n12 -3 0\n",
@@ -59,7 +61,7 @@ fn each_text_gives_its_answer_in_pieces_of_any_size(rt: HostRuntime) -> Result<(
             CHAIN_ANSWER,
         ),
         (b"p cnf 3 3\r\n1 0\r\n-1 2 0\r\n2 3 0\r\n", 10, CHAIN_ANSWER),
-        (b"c x\np cnf 0 0\n", 10, b"s SATISFIABLE\nb 0\n"),
+        (b"c x\np cnf 0 0\n", 10, EMPTY_ANSWER),
     ];
     for (text, status, answer) in rows {
         for piece in [1, 5, 64] {
@@ -74,10 +76,62 @@ fn each_text_gives_its_answer_in_pieces_of_any_size(rt: HostRuntime) -> Result<(
 }
 
 #[test]
+fn the_answer_names_shown_variables_alone(rt: HostRuntime) -> Result<(), Fail> {
+    let alloc = rt.alloc();
+    let words = owned(alloc, &["extract", "f"])?;
+    let rows: [(&[u8], &[u8]); 3] = [
+        (
+            b"p cnf 3 3\nc p show 2 3 0\n1 0\n-1 2 0\n2 3 0\n",
+            b"s SATISFIABLE\nb 2\nb 0\n",
+        ),
+        (
+            b"p cnf 3 3\nc p show 0\n1 0\n-1 2 0\n2 3 0\n",
+            EMPTY_ANSWER,
+        ),
+        // Before the header such a line is a comment.
+        (
+            b"c p show 2 3 0\np cnf 3 3\n1 0\n-1 2 0\n2 3 0\n",
+            CHAIN_ANSWER,
+        ),
+    ];
+    for (text, answer) in rows {
+        for piece in [1, 5, 64] {
+            let mut desk = desk_with(alloc, text, piece, 0)?;
+            assert_eq!(rt; alone(alloc, words.as_slice(), &mut desk), 10);
+            assert_eq!(rt; desk.out_answer.as_slice(), answer);
+        }
+    }
+    Ok(())
+}
+
+// No clause names the text's name: a body that opens the empty name for every word is proved, and answers
+// the typed text here.
+#[test]
+fn the_text_of_the_given_name_is_read_and_no_other(rt: HostRuntime) -> Result<(), Fail> {
+    let alloc = rt.alloc();
+    let rows: [(&[&str], u8, &[u8]); 4] = [
+        (&["extract", "a"], 10, CHAIN_ANSWER),
+        (&["extract", "b"], 20, b"s UNSATISFIABLE\n"),
+        (&["extract"], 10, EMPTY_ANSWER),
+        (&["extract", "c"], 62, b""),
+    ];
+    for (list, status, answer) in rows {
+        let words = owned(alloc, list)?;
+        let mut desk = NamedDesk::new(alloc);
+        desk.put("a", CHAIN)?;
+        desk.put("b", b"p cnf 1 1\n0\n")?;
+        desk.input = b"p cnf 0 0\n".to_vec(alloc)?;
+        assert_eq!(rt; alone(alloc, words.as_slice(), &mut desk), status, "{list:?}");
+        assert_eq!(rt; desk.out_answer.as_slice(), answer, "{list:?}");
+    }
+    Ok(())
+}
+
+#[test]
 fn each_faulty_text_is_refused_with_its_kind_and_place(rt: HostRuntime) -> Result<(), Fail> {
     let alloc = rt.alloc();
     let words = owned(alloc, &["extract", "f"])?;
-    let rows: [(&[u8], &[u8]); 9] = [
+    let rows: [(&[u8], &[u8]); 11] = [
         (b"", b"error: text kind 1 at byte 0\n"),
         (b"p cnf 3\n", b"error: text kind 2 at byte 7\n"),
         (b"p cnf 2 1\n1 x 0\n", b"error: text kind 3 at byte 12\n"),
@@ -92,6 +146,14 @@ fn each_faulty_text_is_refused_with_its_kind_and_place(rt: HostRuntime) -> Resul
             b"error: text kind 7 at byte 25\n",
         ),
         (b"p cnf 1048577 0\n", b"error: text kind 8 at byte 6\n"),
+        (
+            b"p cnf 2 1\nc p show 3 0\n1 2 0\n",
+            b"error: text kind 9 at byte 19\n",
+        ),
+        (
+            b"p cnf 2 1\nc p show 1\n1 2 0\n",
+            b"error: text kind 9 at byte 20\n",
+        ),
         // A fault comes before too many variables.
         (b"p cnf 13 1\n", b"error: text kind 6 at byte 11\n"),
     ];
@@ -202,11 +264,11 @@ fn long_text(alloc: Global, count: usize) -> Result<Vec<u8>, AllocError> {
 fn two_to_the_27_bytes_are_read_and_one_more_is_too_long(rt: HostRuntime) -> Result<(), Fail> {
     let alloc = rt.alloc();
     let words = owned(alloc, &["extract", "f"])?;
-    let mut desk = QuietDesk::new(alloc, 1_000_000);
+    let mut desk = MemDesk::new(alloc, 1_000_000, 1000)?;
     desk.text = long_text(alloc, 134_217_718)?;
     assert_eq!(rt; desk.text.len(), 134_217_728);
     assert_eq!(rt; alone(alloc, words.as_slice(), &mut desk), 10);
-    assert_eq!(rt; desk.wrote, [18, 0, 0, 0]);
+    assert_eq!(rt; desk.out_answer.as_slice(), EMPTY_ANSWER);
 
     let mut desk = MemDesk::new(alloc, 1_000_000, 1000)?;
     desk.text = long_text(alloc, 134_217_719)?;

@@ -13,7 +13,9 @@ use Rattle.std.specs.Prelude.{
   ◌++◌,
   Option,
   IfSome,
+  min,
   slice_index,
+  slice_set,
   option_map,
 }
 use Rattle.bone_desk.specs.declared.desk.Feed.{Feed}
@@ -57,13 +59,6 @@ pub record WritesOnly (port : Port) (old new : Told) : Type 0 where
   pub put : (p : Port) → p ≢ port → new.put p ≡ old.put p
   pub counts : CountsOnly (Write port) old new
 
--- a job that opens and reads one feed, and writes one port: nothing else changes
-pub record Touches (feed : Feed) (port : Port) (old new : Told) : Type 0 where
-  pub left : (f : Feed) → f ≢ feed → new.left f ≡ old.left f
-  pub put : (p : Port) → p ≢ port → new.put p ≡ old.put p
-  pub counts : (a : Act) → a ≢ OpenFeed feed → a ≢ Read feed → a ≢ Write port → new.faults a ≡ old.faults a
-  pub never_falls : (a : Act) → old.faults a ≤ new.faults a
-
 -- these bytes were taken from the front of what was left, where that is told
 abbrev pub Took : Feed → List ℕ → Told → Told → Type 0
 Took feed bytes old new = old.left feed ≡ option_map (λ rest. bytes ++ rest) (new.left feed)
@@ -97,3 +92,8 @@ act_index (Write p) = 12 + port_index p
 
 abbrev pub fault_count : List ℕ → Act → ℕ
 fault_count counts act = slice_index counts (act_index act)
+
+-- the counts after one failure more
+abbrev pub counts_after_fault : List ℕ → Act → List ℕ
+counts_after_fault counts act =
+    slice_set counts (act_index act) (min (fault_count counts act + 1) (2 ^ 64 - 1))

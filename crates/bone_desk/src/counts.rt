@@ -1,14 +1,15 @@
 //! The counts of failures, one for each act, and of written bytes, one for each port.
-ghost use Rattle.std.specs.Prelude.{◌≡◌, ◌<◌, ◌+◌, ◌-◌, ◌^◌, min, slice_index, slice_set};
-ghost use Rattle.bone_desk.specs.Told.{act_index, feed_index, port_index, Rose, CountsOnly};
+ghost use Rattle.std.specs.Prelude.{◌≡◌, ◌<◌, ◌+◌, ◌-◌, ◌^◌, min, slice_index, slice_set, Some, IfOk, OnOk, OnErr};
+ghost use Rattle.bone_desk.specs.Told.{act_index, feed_index, port_index, counts_after_fault, Rose, CountsOnly};
 ghost use Rattle.bone_desk.specs.Real.{counts_told};
 
-use crate::{Act, Feed, Port};
+use crate::{Act, Failed, Feed, Port};
 
 /// How many acts there are.
 pub(crate) const ACTS: usize = 16;
 
-fn feed_place(feed: Feed) -> usize
+/// The place of a feed in an array of four.
+pub(crate) fn feed_place(feed: Feed) -> usize
     ensures place { result ≡ feed_index feed }
     ensures within { result < 4 }
 {
@@ -46,11 +47,30 @@ fn act_place(act: Act) -> usize
 
 /// Counts a failure of an act, and leaves the other counts as they are.
 pub(crate) fn count_fault(faults: &mut [u64; ACTS], act: Act)
+    ensures counted { faults.new ≡ counts_after_fault faults.old act }
     ensures only { CountsOnly act (counts_told faults.old) (counts_told faults.new) }
     ensures cause { Rose act (counts_told faults.old) (counts_told faults.new) }
 {
     let place = act_place(act);
     faults[place] = faults[place].saturating_add(1);
+}
+
+/// What a step answered. Where it failed, the failure of its act is counted.
+pub(crate) fn counted<T: Drop>(
+    faults: &mut [u64; ACTS],
+    act: Act,
+    outcome: Option<T>,
+) -> Result<T, Failed>
+    ensures value { IfOk result (λ x. outcome ≡ Some x) }
+    ensures ok { OnOk result (faults.new ≡ faults.old) }
+    ensures err { OnErr result (faults.new ≡ counts_after_fault faults.old act) }
+    ensures only { CountsOnly act (counts_told faults.old) (counts_told faults.new) }
+    ensures cause { OnErr result (Rose act (counts_told faults.old) (counts_told faults.new)) }
+{
+    if outcome.is_none() {
+        count_fault(faults, act);
+    }
+    outcome.ok_or(Failed)
 }
 
 /// Counts bytes that were written to a port, and leaves the other counts as they are.

@@ -8,6 +8,7 @@ pub(crate) fn copy_front(text: &[u8], at: &mut usize, piece: usize, buf: &mut [u
     ensures moved { result ≡ min (min piece (length buf.old)) (length (drop at.old text.now)) }
     ensures count { result ≤ length buf.old }
     ensures took { drop at.old text.now ≡ take result buf.new ++ drop at.new text.now }
+    ensures rest { drop result buf.new ≡ drop result buf.old }
     ensures end { result ≡ 0 → drop at.old text.now ≡ [] }
 {
     let start = (*at).min(text.len());

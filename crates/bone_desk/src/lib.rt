@@ -6,12 +6,14 @@ mod counts;
 mod desk;
 mod front;
 mod memory;
+mod named;
 mod quiet;
 mod real;
 mod write;
 
 pub use desk::{Act, Desk, Failed, Feed, Port};
 pub use memory::{DeskMemory, MemDesk};
+pub use named::{NamedDesk, NamedText};
 pub use quiet::QuietDesk;
 pub use real::RealDesk;
 pub use write::{GATHERED, PortBuffer, write_all};

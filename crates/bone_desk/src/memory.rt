@@ -1,6 +1,6 @@
 //! A desk in memory: for tests, and for runs on texts that are at hand.
-ghost use Rattle.std.specs.Prelude.{◌≡◌, ◌≤◌, ◌<◌, ◌+◌, ◌-◌, ◌^◌, ◌++◌, ◌↔◌, length, take};
-ghost use Rattle.std.specs.Prelude.{min, IsTrue, Contains, IfSome, IfNone, IfOk, vec_len, vec_capacity};
+ghost use Rattle.std.specs.Prelude.{◌≡◌, ◌≢◌, ◌≤◌, ◌<◌, ◌+◌, ◌-◌, ◌^◌, ◌++◌, ◌↔◌, ◌⊎◌, length, take, drop};
+ghost use Rattle.std.specs.Prelude.{min, IsTrue, Contains, IsErr, IfOk, OnOk, OnErr, vec_len, vec_capacity};
 
 use crate::counts::{ACTS, count_fault};
 use crate::front::copy_front;
@@ -30,7 +30,9 @@ impl From<AllocError> for DeskMemory {
 
 /// A desk whose feeds and ports are vectors. It tells all bytes.
 ///
-/// Set the texts and `fail` before its use. Opening needs no name, and changes nothing.
+/// Set the texts and `fail` before its use. Opening needs no name, and changes nothing but counts. A
+/// call fails exactly where its number is one of `fail`, or where it writes to a port that has no room
+/// left; then it counts the failure of its act and does nothing else.
 #[derive(Drop)]
 pub struct MemDesk {
     /// What the feed `Text` has.
@@ -108,32 +110,52 @@ fn is_to_fail(calls: &mut u64, fail: &[u64]) -> bool
     fail.contains(calls)
 }
 
-/// Appends a front of `bytes` to an output, and answers its length: `None` where the output is
-/// full.
-fn append_front(out: &mut Vec<u8>, spare: usize, piece: usize, bytes: &[u8]) -> Option<usize>
-    requires piece { 1 ≤ piece }
-    requires room { spare ≤ vec_capacity out.old }
-    ensures count { IfSome result (λ k. k ≤ length bytes.now) }
-    ensures gave { IfSome result (λ k. out.new.items ≡ out.old.items ++ take k bytes.now) }
-    ensures moves { IfSome result (λ k. 0 < length bytes.now → 0 < k) }
-    ensures full { IfNone result (spare ≤ vec_len out.old) }
-    ensures none { IfNone result (out.new.items ≡ out.old.items) }
+/// Appends a front of `bytes` to an output that has room, and answers its length.
+fn append_front(out: &mut Vec<u8>, spare: usize, piece: usize, bytes: &[u8]) -> usize
+    requires room { vec_len out.old < spare }
+    requires capacity { spare ≤ vec_capacity out.old }
+    ensures moved { result ≡ min (min piece (length bytes.now)) (spare - vec_len out.old) }
+    ensures gave { out.new.items ≡ out.old.items ++ take result bytes.now }
     ensures capacity { spare ≤ vec_capacity out.new }
 {
-    let moved = piece.min(bytes.len()).min(spare.saturating_sub(out.len()));
-    if moved > 0 {
-        out.extend_from_slice(&bytes[..moved]).unwrap();
-        return Some(moved);
+    let moved = piece.min(bytes.len()).min(spare - out.len());
+    out.extend_from_slice(&bytes[..moved]).unwrap();
+    moved
+}
+
+impl MemDesk {
+    ghost use Rattle.bone_desk.specs.Memory.{IsFull};
+
+    /// Whether a port takes no byte more.
+    fn is_full(&self, port: Port) -> bool
+        ensures { IsTrue result ↔ IsFull self.now port }
+    {
+        match port {
+            Port::Answer => self.spare <= self.out_answer.len(),
+            Port::Proof => self.spare <= self.out_proof.len(),
+            Port::Witness => self.spare <= self.out_witness.len(),
+            Port::Notes => self.spare <= self.out_notes.len(),
+        }
     }
-    if bytes.is_empty() { Some(0) } else { None }
 }
 
 impl Desk for MemDesk {
-    ghost use Rattle.bone_desk.specs.Memory.{memory_told};
+    ghost use Rattle.bone_desk.specs.Told.{SameBytes, CountsOnly, ReadsOnly, WritesOnly, Rose, Took, Gave, AtEnd};
+    ghost use Rattle.bone_desk.specs.Memory.{memory_told, unread, room, IsListed, IsFull};
+    ghost use Rattle.bone_desk.specs.Memory.{CountsFault, ChangesCalls, ChangesPlace, ChangesOutput};
 
     ghost told = { memory_told };
 
-    fn open_feed(&mut self, feed: Feed, _name: &str) -> Result<(), Failed> {
+    fn open_feed(&mut self, feed: Feed, _name: &str) -> Result<(), Failed>
+        ensures same { SameBytes (memory_told self.old) (memory_told self.new) }
+        ensures only { CountsOnly (Act.OpenFeed feed) (memory_told self.old) (memory_told self.new) }
+        ensures cause { OnErr result (Rose (Act.OpenFeed feed) (memory_told self.old) (memory_told self.new)) }
+
+        // What this desk does beyond the trait's clauses, exactly.
+        ensures fails { IsErr result ↔ IsListed self.old }
+        ensures done { OnOk result (ChangesCalls self.old self.new) }
+        ensures refused { OnErr result (CountsFault (Act.OpenFeed feed) self.old self.new) }
+    {
         if is_to_fail(&mut self.calls, &self.fail) {
             count_fault(&mut self.faults, Act::OpenFeed(feed));
             return Err(Failed);
@@ -141,7 +163,16 @@ impl Desk for MemDesk {
         Ok(())
     }
 
-    fn open_port(&mut self, port: Port, _name: &str) -> Result<(), Failed> {
+    fn open_port(&mut self, port: Port, _name: &str) -> Result<(), Failed>
+        ensures same { SameBytes (memory_told self.old) (memory_told self.new) }
+        ensures only { CountsOnly (Act.OpenPort port) (memory_told self.old) (memory_told self.new) }
+        ensures cause { OnErr result (Rose (Act.OpenPort port) (memory_told self.old) (memory_told self.new)) }
+
+        // What this desk does beyond the trait's clauses, exactly.
+        ensures fails { IsErr result ↔ IsListed self.old }
+        ensures done { OnOk result (ChangesCalls self.old self.new) }
+        ensures refused { OnErr result (CountsFault (Act.OpenPort port) self.old self.new) }
+    {
         if is_to_fail(&mut self.calls, &self.fail) {
             count_fault(&mut self.faults, Act::OpenPort(port));
             return Err(Failed);
@@ -149,7 +180,25 @@ impl Desk for MemDesk {
         Ok(())
     }
 
-    fn read(&mut self, feed: Feed, buf: &mut [u8]) -> Result<usize, Failed> {
+    fn read(&mut self, feed: Feed, buf: &mut [u8]) -> Result<usize, Failed>
+        requires { 0 < length buf.old }
+        ensures count { IfOk result (λ k. k ≤ length buf.old) }
+        ensures took { IfOk result
+            (λ k. Took feed (take k buf.new) (memory_told self.old) (memory_told self.new)) }
+        ensures end { IfOk result (λ k. k ≡ 0 → AtEnd feed (memory_told self.old)) }
+        ensures only { ReadsOnly feed (memory_told self.old) (memory_told self.new) }
+        ensures cause { OnErr result (Rose (Act.Read feed) (memory_told self.old) (memory_told self.new)) }
+        ensures err { OnErr result (SameBytes (memory_told self.old) (memory_told self.new)) }
+
+        // What this desk does beyond the trait's clauses, exactly.
+        ensures fails { IsErr result ↔ IsListed self.old }
+        ensures moved { IfOk result (λ k.
+            k ≡ min (min self.old.piece (length buf.old)) (length (unread self.old feed))) }
+        ensures rest { IfOk result (λ k. drop k buf.new ≡ drop k buf.old) }
+        ensures done { OnOk result (ChangesPlace feed self.old self.new) }
+        ensures refused { OnErr result (CountsFault (Act.Read feed) self.old self.new) }
+        ensures kept { OnErr result (buf.new ≡ buf.old) }
+    {
         if is_to_fail(&mut self.calls, &self.fail) {
             count_fault(&mut self.faults, Act::Read(feed));
             return Err(Failed);
@@ -163,8 +212,27 @@ impl Desk for MemDesk {
         Ok(moved)
     }
 
-    fn write(&mut self, port: Port, bytes: &[u8]) -> Result<usize, Failed> {
+    fn write(&mut self, port: Port, bytes: &[u8]) -> Result<usize, Failed>
+        ensures count { IfOk result (λ k. k ≤ length bytes.now) }
+        ensures gave { IfOk result
+            (λ k. Gave port (take k bytes.now) (memory_told self.old) (memory_told self.new)) }
+        ensures moves { IfOk result (λ k. 0 < length bytes.now → 0 < k) }
+        ensures only { WritesOnly port (memory_told self.old) (memory_told self.new) }
+        ensures cause { OnErr result (Rose (Act.Write port) (memory_told self.old) (memory_told self.new)) }
+        ensures err { OnErr result (SameBytes (memory_told self.old) (memory_told self.new)) }
+
+        // What this desk does beyond the trait's clauses, exactly.
+        ensures fails { IsErr result ↔ (IsListed self.old ⊎ IsFull self.old port) }
+        ensures moved { IfOk result (λ k.
+            k ≡ min (min self.old.piece (length bytes.now)) (room self.old port)) }
+        ensures done { OnOk result (ChangesOutput port self.old self.new) }
+        ensures refused { OnErr result (CountsFault (Act.Write port) self.old self.new) }
+    {
         if is_to_fail(&mut self.calls, &self.fail) {
+            count_fault(&mut self.faults, Act::Write(port));
+            return Err(Failed);
+        }
+        if self.is_full(port) {
             count_fault(&mut self.faults, Act::Write(port));
             return Err(Failed);
         }
@@ -174,12 +242,6 @@ impl Desk for MemDesk {
             Port::Witness => append_front(&mut self.out_witness, self.spare, self.piece, bytes),
             Port::Notes => append_front(&mut self.out_notes, self.spare, self.piece, bytes),
         };
-        match moved {
-            Some(moved) => Ok(moved),
-            None => {
-                count_fault(&mut self.faults, Act::Write(port));
-                Err(Failed)
-            }
-        }
+        Ok(moved)
     }
 }

@@ -1,9 +1,8 @@
 //! A desk of files and standard streams.
-ghost use Rattle.std.specs.Prelude.{◌≡◌, ◌≤◌, ◌<◌, replicate, length, IfSome, IfOk, OnErr, Some};
-ghost use Rattle.bone_desk.specs.Told.{Rose, CountsOnly};
+ghost use Rattle.std.specs.Prelude.{◌≡◌, ◌≤◌, ◌<◌, replicate, length, IfSome};
 ghost use Rattle.bone_desk.specs.Real.{counts_told};
 
-use crate::counts::{ACTS, count_fault};
+use crate::counts::{ACTS, counted};
 use crate::{Act, Desk, Failed, Feed, Port};
 use std::fs::File;
 use std::io;
@@ -58,18 +57,6 @@ impl<R: Runtime> RealDesk<R> {
             faults: [0; ACTS],
         }
     }
-}
-
-/// What a step answered. Where it failed, the failure of its act is counted.
-fn counted<T: Drop>(faults: &mut [u64; ACTS], act: Act, outcome: Option<T>) -> Result<T, Failed>
-    ensures value { IfOk result (λ x. outcome ≡ Some x) }
-    ensures only { CountsOnly act (counts_told faults.old) (counts_told faults.new) }
-    ensures cause { OnErr result (Rose act (counts_told faults.old) (counts_told faults.new)) }
-{
-    if outcome.is_none() {
-        count_fault(faults, act);
-    }
-    outcome.ok_or(Failed)
 }
 
 fn read_from<S: Read>(source: &mut S, buf: &mut [u8]) -> Option<usize>

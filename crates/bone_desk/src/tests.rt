@@ -1,5 +1,5 @@
 //! What no clause says: which calls fail in memory, how short calls join, and that files work.
-use crate::{Desk, Failed, Feed, MemDesk, Port, PortBuffer, QuietDesk, RealDesk, write_all};
+use crate::{Desk, Failed, Feed, MemDesk, NamedDesk, Port, PortBuffer, QuietDesk, RealDesk, write_all};
 use std::alloc::AllocError;
 use std::test::Fail;
 
@@ -44,13 +44,13 @@ fn calls_fail_by_number_and_short_reads_give_the_whole_text(rt: HostRuntime) -> 
 
 /// Pushes 1,000 lines of ten bytes and a long piece, and gives what waits at the end.
 fn push_lines<D: Desk>(desk: &mut D, port: Port) -> Result<(), Failed> {
-    let mut buffer = PortBuffer::new();
+    let mut buffer = PortBuffer::new(port);
     for _ in 0..1000 {
-        buffer.push(desk, port, b"d 12 -34 ")?;
-        buffer.push(desk, port, b"\n")?;
+        buffer.push(desk, b"d 12 -34 ")?;
+        buffer.push(desk, b"\n")?;
     }
-    buffer.push(desk, port, &[b'e'; 5000])?;
-    buffer.flush(desk, port)
+    buffer.push(desk, &[b'e'; 5000])?;
+    buffer.flush(desk)
 }
 
 #[test]
@@ -130,5 +130,62 @@ fn a_real_file_is_written_and_read_back(rt: HostRuntime) -> Result<(), Fail> {
         desk.faults,
         [0, 1, 0, 0, 0, 0, 1, 0, 0, 1, 0, 0, 0, 0, 1, 0]
     );
+    Ok(())
+}
+
+#[test]
+fn a_named_desk_reads_and_writes_each_text_by_its_name(rt: HostRuntime) -> Result<(), Fail> {
+    let alloc = rt.alloc();
+    let mut desk = NamedDesk::new(alloc);
+    desk.input = b"typed".to_vec(alloc)?;
+    desk.put("a", b"other")?;
+    desk.put("b", b"second")?;
+    desk.put("a", TEXT)?;
+    assert_eq!(rt; desk.open_port(Port::Proof, "p"), Ok(()));
+    assert_eq!(rt; write_all(&mut desk, Port::Proof, b"4 2 0 1 2 0\n"), Ok(()));
+    assert_eq!(rt; write_all(&mut desk, Port::Notes, b"a note"), Ok(()));
+    let feeds: [(Feed, &str, &[u8]); 5] = [
+        (Feed::Text, "a", TEXT),
+        (Feed::Text, "", b"typed"),
+        (Feed::Text, "b", b"second"),
+        (Feed::Answer, "b", b"second"),
+        (Feed::Proof, "p", b"4 2 0 1 2 0\n"),
+    ];
+    for (feed, name, text) in feeds {
+        assert_eq!(rt; desk.open_feed(feed, name), Ok(()), "{name}");
+        let mut all = Vec::new(alloc);
+        assert!(rt; read_on(&mut desk, feed, &mut all)?, "{name}");
+        assert_eq!(rt; all.as_slice(), text, "{name}");
+    }
+    assert_eq!(rt; desk.text("p"), Some(b"4 2 0 1 2 0\n".as_slice()));
+    assert_eq!(rt; desk.text("q"), None);
+    assert_eq!(rt; desk.out_notes.as_slice(), b"a note".as_slice());
+    assert_eq!(rt; desk.faults, [0; 16]);
+    Ok(())
+}
+
+#[test]
+fn what_is_not_open_on_a_named_desk_fails(rt: HostRuntime) -> Result<(), Fail> {
+    let alloc = rt.alloc();
+    let mut desk = NamedDesk::new(alloc);
+    desk.put("a", TEXT)?;
+    assert_eq!(rt; desk.open_feed(Feed::Text, "b"), Err(Failed));
+    assert_eq!(rt; desk.open_feed(Feed::Witness, ""), Err(Failed));
+    assert_eq!(rt; desk.read(Feed::Text, &mut [0; 7]), Err(Failed));
+    assert_eq!(rt; desk.write(Port::Witness, TEXT), Err(Failed));
+    assert_eq!(rt;
+        desk.faults,
+        [1, 0, 0, 1, 0, 0, 0, 0, 1, 0, 0, 0, 0, 0, 1, 0]
+    );
+    Ok(())
+}
+
+#[test]
+fn a_full_output_takes_not_even_an_empty_piece(rt: HostRuntime) -> Result<(), Fail> {
+    let mut desk = MemDesk::new(rt.alloc(), 64, 4)?;
+    assert_eq!(rt; desk.write(Port::Notes, b""), Ok(0));
+    assert_eq!(rt; desk.write(Port::Notes, TEXT), Ok(4));
+    assert_eq!(rt; desk.write(Port::Notes, b""), Err(Failed));
+    assert_eq!(rt; desk.calls, 3);
     Ok(())
 }

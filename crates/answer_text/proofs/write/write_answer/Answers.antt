@@ -1,13 +1,10 @@
 -- A failure when what waits is given: nothing had been given before that isn't of the text.
-use Rattle.std.proofs.Common.{List, ℕ, ◌++◌, ap}
 use Rattle.std.proofs.lemmas.Result.{err_from_is_err_and}
-use Rattle.bone_desk.proofs.Steps.{front_owed}
+use Rattle.bone_desk.proofs.Pieces.{whole_cut}
 use Rattle.answer_text.specs.AnswerText.{text_of}
-use Rattle.bone_desk.proofs.Pieces.{front_as}
 use Rattle.answer_text.proofs.write.write_answer.Goals as goal
 
 pub returns-in_err-flush-clause-front : goal.returns-in_err-flush-clause-front
 returns-in_err-flush-clause-front g c =
     let p = err_from_is_err_and c.from_residual-in_err-flush.result c.from_residual-in_err-flush.ensures.1 in
-    rw p.1 (front_as (ap (λ (first : List ℕ). first ++ text_of c.args.answer.now) c.new-buffer.ensures)
-    (front_owed c.in_ok-push_answer.ensures.owes c.in_err-flush.ensures.front))
+    rw p.1 (whole_cut (text_of c.args.answer.now) c.new-buffer.ensures c.in_ok-push_answer.ensures.ok c.in_err-flush.ensures.front)

@@ -1,9 +1,12 @@
-use Rattle.std.proofs.Common.{◌≡◌, ◌^◌, length, subst, sym, ap, ◌∙◌, true, false, add-one, arith}
+use Rattle.std.proofs.Common.{◌≡◌, ◌^◌, length, refl, subst, sym, ap, ◌∙◌, true, false, add-one, arith}
+use Rattle.std.proofs.lemmas.Bool.{false_from_ne_true, false≢true}
 use Rattle.cnf_core.specs.Literals.{AreWithin, all_true}
-use Rattle.backbone_main.specs.Numbered.{assignment_at}
-use Rattle.backbone_main.proofs.Narrowing.{holds_at, IsKnownBelow, IsNarrowed, IsKnownBelow-skip, IsKnownBelow-model, within_of_IsKnownBelow, unsatisfiable_of_IsKnownBelow, backbone_of_IsKnownBelow}
+use Rattle.cnf_core.specs.Formulas.{IsModel}
+use Rattle.backbone_main.specs.Steps.Numbered.{assignment_at}
+use Rattle.backbone_main.proofs.Narrowing.{holds_at, is_model_at, IsKnownBelow, IsNarrowed, IsKnownBelow-skip, IsKnownBelow-model}
+use Rattle.backbone_main.proofs.Narrowing.{within_of_IsKnownBelow, unsatisfiable_of_IsKnownBelow, backbone_of_IsKnownBelow}
 use Rattle.backbone_main.proofs.enumeration.common_literals.Goals as goal
-use Rattle.backbone_main.proofs.enumeration.common_literals.Goals.{then-satisfies+in_ok-narrowed, else-satisfies}
+use Rattle.backbone_main.proofs.enumeration.common_literals.Goals.{then-is_model+in_ok-narrowed, else-is_model}
 
 pub narrowed-requires-clause-within : goal.narrowed-requires-clause-within
 narrowed-requires-clause-within c = λ lits is.
@@ -23,16 +26,19 @@ loop-number-preserved c =
     c.write_assignment.ensures.value ∙ ap (λ n. assignment_at n k) c.loop-number.invariant.long in
     record {
       long = long;
-      known = elim c.if-satisfies.branch [
-        | then-satisfies+in_ok-narrowed w ↦
+      known = elim c.if-is_model.branch [
+        | then-is_model+in_ok-narrowed w ↦
             let lits = w.in_ok-narrowed.field-0 in
-            let holds : holds_at F k ≡ true = subst (λ a. all_true a F.clauses ≡ true) is (sym w.if-satisfies.ensures) in
+            let model : IsModel F values = w.if-is_model.ensures.model.0 refl in
+            let holds : holds_at F k ≡ true = subst (λ a. all_true a F.clauses ≡ true) is model.satisfied in
             let narrowed : IsNarrowed (assignment_at F.vars k) F.vars c.loop-number.common lits.items =
             subst (λ a. IsNarrowed a F.vars c.loop-number.common lits.items) is
             (subst (λ n. IsNarrowed values n c.loop-number.common lits.items) long w.in_ok-narrowed.ensures) in
             rw (w.common-is, add-one) (IsKnownBelow-model F k c.loop-number.common lits holds known narrowed)
-        | else-satisfies w ↦
-            let fails : holds_at F k ≡ false = subst (λ a. all_true a F.clauses ≡ false) is (sym w.if-satisfies.ensures) in
+        | else-is_model w ↦
+            let fails : holds_at F k ≡ false =
+            false_from_ne_true (holds_at F k)
+            (λ holds. false≢true (w.if-is_model.ensures.model.1 (subst (λ a. IsModel F a) (sym is) (is_model_at F k holds)))) in
             rw (w.common-is, add-one) (IsKnownBelow-skip F k c.loop-number.common fails known)
       ];
     }

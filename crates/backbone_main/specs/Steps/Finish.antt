@@ -1,14 +1,27 @@
--- The second half of a run: the answer of a formula that was read.
-use Rattle.std.specs.Prelude.{◌≡◌, ◌⊎◌, ℕ, List}
+-- What a run does before its note; and its second half, the answer of a formula that was read.
+use Rattle.std.specs.Prelude.{◌≡◌, ◌≢◌, ◌≤◌, ◌⊎◌, ℕ, List}
+use Rattle.bone_desk.specs.declared.desk.Feed.{Feed}
+use Rattle.bone_desk.specs.declared.desk.Feed.TheVariants as feed
+use Rattle.bone_desk.specs.declared.desk.Port.{Port}
 use Rattle.bone_desk.specs.declared.desk.Port.TheVariants as port
-use Rattle.bone_desk.specs.declared.desk.Act.TheVariants.{Write}
+use Rattle.bone_desk.specs.declared.desk.Act.{Act}
+use Rattle.bone_desk.specs.declared.desk.Act.TheVariants.{OpenFeed, Read, Write}
 use Rattle.bone_desk.specs.Told.{Told, Rose, Gave}
 use Rattle.bone_desk.specs.Gives.{GaveFront}
 use Rattle.cnf_core.specs.Formulas.{Cnf}
 use Rattle.answer_text.specs.AnswerText.{answer_text}
 use Rattle.backbone_main.specs.Outcome.{HasModel, HasNoModel, WritesNothing}
 use Rattle.backbone_main.specs.declared.ending.Ending.{Ending}
-use Rattle.backbone_main.specs.declared.ending.Ending.TheVariants.{Complete, Unsatisfiable, OutOfMemory, BadText, TooLong, NotBuilt, ReadFault, WriteFault, OpenFault, Usage}
+use Rattle.backbone_main.specs.declared.ending.Ending.TheVariants.{Complete, Unsatisfiable, OutOfMemory, BadText, TooLong}
+use Rattle.backbone_main.specs.declared.ending.Ending.TheVariants.{NotBuilt, ReadFault, WriteFault, OpenFault, Usage}
+
+-- before its note a run opens and reads the text, and writes the answer: nothing else changes
+pub record Touches (old new : Told) : Type 0 where
+  pub left : (f : Feed) → f ≢ feed.Text → new.left f ≡ old.left f
+  pub put : (p : Port) → p ≢ port.Answer → new.put p ≡ old.put p
+  pub counts : (a : Act) → a ≢ OpenFeed feed.Text → a ≢ Read feed.Text → a ≢ Write port.Answer
+      → new.faults a ≡ old.faults a
+  pub never_falls : (a : Act) → old.faults a ≤ new.faults a
 
 -- what was done with the formula, by the ending
 abbrev pub Finishes : Ending → Cnf → Told → Told → Type 0
