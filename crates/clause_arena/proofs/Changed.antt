@@ -1,15 +1,18 @@
 -- What a change of the fields does to the entries.
-use Rattle.std.proofs.Common.{◌≡◌, ◌≢◌, ℕ, zero, suc, ◌+◌, ◌-◌, ◌<◌, ◌≤◌, ◌^◌, true, false, List, [], ◌∷◌, ◌++◌, length, get_or, set, drop, refl, sym, ap, ◌∙◌, ⊎_elim, zero-lt-suc, arith, length-append}
+use Rattle.std.proofs.Common.{◌≡◌, ◌≢◌, ℕ, zero, suc, ◌+◌, ◌-◌, ◌<◌, ◌≤◌, ◌^◌, true, false, List, [], ◌∷◌, ◌++◌, length, get_or, set, drop}
+use Rattle.std.proofs.Common.{refl, sym, ap, ◌∙◌, ⊎_elim, zero-lt-suc, arith, length-append}
 use Rattle.std.specs.List.{between, swap}
-use Rattle.std.proofs.lemmas.List.{length-set, get_or-set_same, get_or-set_other, get_or_append_left, get_or_push, length_push, ext_get_or, take-append-le, take_all, drop_at, get_or_read}
+use Rattle.std.proofs.lemmas.List.{length-set, get_or-set_same, get_or-set_other, get_or_append_left, get_or_push, length_push, ext_get_or}
+use Rattle.std.proofs.lemmas.List.{take-append-le, take_all, drop_at, get_or_read}
 use Rattle.std.proofs.lemmas.List.Edits.{length-between, get_or-between, swapped_from_swap, length-swap}
 use Rattle.std.proofs.lemmas.Slice.{between_is}
 use Rattle.std.proofs.lemmas.List.FromFn.{length-map-range_with_len}
 use Rattle.std.proofs.lemmas.Bool.{cases_eq, cases_lt}
 use Rattle.cnf_core.specs.Literals.{Literals}
-use Rattle.clause_arena.specs.Entries.{Entry, Entries, no_entry, no_literal, entry_at, len_of, new_entry, with_entry, without_clause, with_swap}
-use Rattle.clause_arena.specs.Layout.{no_mark, mark_at, laid_entry, laid_entries, IsLaidOut}
-use Rattle.clause_arena.specs.Opened.{opened}
+use Rattle.clause_arena.specs.Entries.{Entry, Entries, no_entry, no_literal, entry_at, len_of, new_entry, with_entry, without_clause}
+use Rattle.clause_arena.specs.Entries.{with_swap}
+use Rattle.clause_arena.specs.Steps.Layout.{no_mark, mark_at, laid_entry, laid_entries, IsLaidOut}
+use Rattle.clause_arena.specs.Steps.Opened.{opened}
 use Rattle.clause_arena.specs.declared.arena.Mark.{Mark}
 use Rattle.clause_arena.proofs.Laid.{IsKept, length_is, laid_at, entry_is, bounds_of}
 
@@ -123,7 +126,8 @@ entries_more l c s m a e x k end live =
     let lits : between (get_or s' i 0) (get_or s' (i + 1) 0) l' ≡ between (get_or s i 0) (get_or s (i + 1) 0) l =
     rw (from, to) (between-append l c (get_or s i 0) (get_or s (i + 1) 0) b.within) in
     let same : laid_entry l' s' m' i ≡ laid_entry l s m i =
-    same_entries (laid_entry l' s' m' i) (laid_entry l s m i) (ap (λ y. y.id) mark) lits (ap (λ y. y.learnt) mark) (ap (λ y. y.live) mark) in
+    same_entries (laid_entry l' s' m' i) (laid_entry l s m i) (ap (λ y. y.id) mark) lits (ap (λ y. y.learnt) mark)
+    (ap (λ y. y.live) mark) in
     same ∙ sym (entry_is l s m a i k (omega arith)) ∙ sym (get_or_append_left a (new ∷ []) no_entry i (omega arith)))
     (λ (last : length m ≤ i).
     let at : i ≡ length m = omega arith in

@@ -6,7 +6,7 @@ use Rattle.std.proofs.lemmas.List.Edits.{length-between, get_or-between}
 use Rattle.std.proofs.lemmas.List.FromFn.{length-map-range_with_len, get_or-map-range_with_len}
 use Rattle.cnf_core.specs.Literals.{Literal, Literals}
 use Rattle.clause_arena.specs.Entries.{Entries, no_entry, no_literal, entry_at, len_of, literal_of}
-use Rattle.clause_arena.specs.Layout.{no_mark, mark_at, laid_entry, laid_entries, IsLaidOut}
+use Rattle.clause_arena.specs.Steps.Layout.{no_mark, mark_at, laid_entry, laid_entries, IsLaidOut}
 use Rattle.clause_arena.specs.declared.arena.Mark.{Mark}
 
 -- the fields of an arena, and the entries that they are seen as
@@ -83,4 +83,8 @@ read_mark l s m a r x k here read =
     let within : r < length m = omega (arith, length_is l s m a k) in
     let is : x ≡ mark_at m r = get_or_read m r x within read no_mark in
     let entry : laid_entry l s m r ≡ entry_at a r = sym (entry_is l s m a r k here) in
-    (ap (λ y. y.id) is ∙ ap (λ e. e.id) entry, ap (λ y. y.learnt) is ∙ ap (λ e. e.learnt) entry, ap (λ y. y.live) is ∙ ap (λ e. e.live) entry)
+    (
+      ap (λ y. y.id) is ∙ ap (λ e. e.id) entry,
+      ap (λ y. y.learnt) is ∙ ap (λ e. e.learnt) entry,
+      ap (λ y. y.live) is ∙ ap (λ e. e.live) entry,
+    )

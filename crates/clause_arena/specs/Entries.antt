@@ -1,5 +1,6 @@
 -- The clauses of an arena, as the list of its entries. A reference is a place in that list.
-use Rattle.std.specs.Prelude.{◌≡◌, ℕ, ◌<◌, Bool, true, false, if◌then◌else◌, Option, Some, None, List, [], ◌∷◌, ◌++◌, length, take, filter, count_by, swap, slice_index_or, slice_set}
+use Rattle.std.specs.Prelude.{◌≡◌, ℕ, ◌<◌, Bool, true, false, if◌then◌else◌, Option, Some, None, List, [], ◌∷◌, ◌++◌, length, take, filter}
+use Rattle.std.specs.Prelude.{count_by, swap, slice_index_or, slice_set}
 use Rattle.cnf_core.specs.Literals.{Literal, Literals}
 
 -- a clause with its id, whether it was learnt, and whether it is still there

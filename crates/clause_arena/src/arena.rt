@@ -1,7 +1,9 @@
-ghost use Rattle.std.specs.Prelude.{◌≡◌, ◌+◌, ◌<◌, ◌≤◌, ℕ, [], ◌++◌, ◌∷◌, length, slice_index, slice_range, if◌then◌else◌, IfOk, OnOk, OnErr, Some, None};
-ghost use Rattle.clause_arena.specs.Entries.{IsLive, entry_at, len_of, literal_of, new_entry, with_entry, without_clause, with_swap, live_entries, moved_to, move_of};
+ghost use Rattle.std.specs.Prelude.{◌≡◌, ◌+◌, ◌<◌, ◌≤◌, ℕ, [], ◌++◌, ◌∷◌, length, slice_index, slice_range, if◌then◌else◌, IfOk, OnOk};
+ghost use Rattle.std.specs.Prelude.{OnErr, Some, None};
+ghost use Rattle.clause_arena.specs.Entries.{IsLive, entry_at, len_of, literal_of, new_entry, with_entry, without_clause, with_swap};
+ghost use Rattle.clause_arena.specs.Entries.{live_entries, moved_to, move_of};
 ghost use Rattle.std.specs.Vec.{vec_capacity, vec_len};
-ghost use Rattle.clause_arena.specs.Opened.{opened};
+ghost use Rattle.clause_arena.specs.Steps.Opened.{opened};
 
 use crate::{ClauseRef, Moves};
 use cnf_core::{Lit, NoMemory};
@@ -26,7 +28,7 @@ pub struct Arena {
 
 impl Model for Arena {
     ghost use Rattle.clause_arena.specs.Entries.{Entries};
-    ghost use Rattle.clause_arena.specs.Layout.{laid_entries, IsLaidOut};
+    ghost use Rattle.clause_arena.specs.Steps.Layout.{laid_entries, IsLaidOut};
 
     ghost Value = { Entries };
 

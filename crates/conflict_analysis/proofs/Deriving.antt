@@ -1,5 +1,6 @@
 -- How hints derive resolvents: each new hint is taken before those that are there.
-use Rattle.std.proofs.Common.{◌≡◌, ◌≢◌, ◌⊎◌, ℕ, ◌<◌, ◌≤◌, List, [], ◌∷◌, ◌++◌, length, Contains, map, refl, sym, ◌∙◌, subst, inl, inr, ⊎_elim, arith}
+use Rattle.std.proofs.Common.{◌≡◌, ◌≢◌, ◌⊎◌, ℕ, ◌<◌, ◌≤◌, List, [], ◌∷◌, ◌++◌, length, Contains, map, refl, sym, ◌∙◌, subst, inl, inr}
+use Rattle.std.proofs.Common.{⊎_elim, arith}
 use Rattle.std.proofs.lemmas.List.Elements.{Contains-push, Contains-push_cases, Contains-append_left}
 use Rattle.cnf_core.specs.Literals.{Literal, Literals, negated}
 use Rattle.cnf_core.proofs.Lists.{Contains-head, Contains-tail, Contains-cons_cases}
@@ -9,7 +10,7 @@ use Rattle.lrat_lines.specs.Propagation.{Known}
 use Rattle.lrat_lines.specs.Tight.{StandsIn, ShowsAt, AddsAt, IsTightFrom, IsTight}
 use Rattle.lrat_lines.proofs.Tightness.{same_or_not, shows, adds}
 use Rattle.conflict_analysis.specs.Members.{HasClause}
-use Rattle.conflict_analysis.specs.Resolvents.{IsApart, Derives}
+use Rattle.conflict_analysis.specs.Steps.Resolvents.{IsApart, Derives}
 use Rattle.conflict_analysis.proofs.Literals.{negated-negated, negation_back, not_both_true}
 
 last_hint : (known : Known) (trues : Literals) (h : ℕ) → ShowsAt known trues h → IsTightFrom known trues (h ∷ [])

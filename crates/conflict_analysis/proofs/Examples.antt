@@ -1,13 +1,17 @@
 -- The settings of the examples meet the conditions.
-use Rattle.std.proofs.Common.{◌≡◌, ◌≢◌, ℕ, zero, suc, ◌<◌, Bool, true, false, [], ◌∷◌, length, Contains, refl, sym, ap, ◌∙◌, subst, ⊎_elim, arith}
+use Rattle.std.proofs.Common.{◌≡◌, ◌≢◌, ℕ, zero, suc, ◌<◌, ◌≤◌, Bool, true, false, List, [], ◌∷◌, length, Contains, refl, sym, ap, ◌∙◌}
+use Rattle.std.proofs.Common.{subst, ⊎_elim, arith}
 use Rattle.cnf_core.specs.Literals.{Literal, Literals, negated}
 use Rattle.cnf_core.proofs.Lists.{Contains-cons_cases, Contains-nil}
 use Rattle.clause_arena.specs.Entries.{entry_at, IsLive}
+use Rattle.trail_core.specs.declared.entry.Assigned.{Assigned}
 use Rattle.trail_core.specs.declared.entry.Reason.TheVariants.{Decision, Clause as ByClause, Unit as ByUnit}
 use Rattle.trail_core.specs.Trails.{assigned_at}
+use Rattle.trail_core.specs.TrueAndFalse.{IsFalse, IsFalseAt, IsFalseBelow, IsFalseBefore, IsFreeBelow}
 use Rattle.lrat_lines.proofs.Tightness.{same_or_not}
-use Rattle.conflict_analysis.specs.Reasons.{IsFalse, IsFalseAt, IsFalseBelow, IsFalseBefore, IsReason, IsReasoned, IsUnit, IsFreeBelow, IsConflict}
-use Rattle.conflict_analysis.specs.Examples.{literal, deep_clauses, deep_trail, root_clauses, root_trail, ExamplesAreReady}
+use Rattle.conflict_analysis.specs.Reasons.{IsReason, IsReasoned, IsUnit, IsConflict}
+use Rattle.conflict_analysis.specs.Examples.{literal, deep_clauses, deep_trail, wide_clauses, wide_trail, root_clauses, root_trail}
+use Rattle.conflict_analysis.specs.Examples.{ExamplesAreReady}
 use Rattle.conflict_analysis.proofs.Literals.{negation_back}
 
 -- what holds of each of two or three literals holds of each member
@@ -95,15 +99,14 @@ unfolding deep_clauses deep_trail root_clauses root_trail
 not_below v sign other f =
     other (ap (λ (l : Literal). l.var) (below_by f.place (literal v sign) f.within f.lit f.below))
 
--- where two literals of a clause have values at the level alone, it is neither false nor a unit before
-two_open : (c : Literals) (v u : ℕ) (p q : Bool) → v ≢ 1 → u ≢ 1 → v ≢ u → Contains c (literal v p) → Contains c (literal u q)
-    → (l : Literal) → ((x : Literal) → Contains c x → x ≢ l → IsFalseBelow deep_trail.entries 2 x) → ⊥
-unfolding deep_clauses deep_trail root_clauses root_trail
-two_open c v u p q first second apart there there_too l others = ⊎_elim
-    (λ (is : literal v p ≡ l). not_below u q second (others (literal u q) there_too
-    (λ same. apart (ap (λ (k : Literal). k.var) (is ∙ sym same)))))
-    (λ (other : literal v p ≢ l). not_below v p first (others (literal v p) there other))
-    (same_or_not (literal v p) l)
+-- where two literals of a clause aren't false below the level, it is neither false nor a unit before
+two_open : (es : List Assigned) (level : ℕ) (c : Literals) (k m : Literal) → k.var ≢ m.var → Contains c k → Contains c m
+    → (IsFalseBelow es level k → ⊥) → (IsFalseBelow es level m → ⊥)
+    → (l : Literal) → ((x : Literal) → Contains c x → x ≢ l → IsFalseBelow es level x) → ⊥
+two_open es level c k m apart there there_too first second l others = ⊎_elim
+    (λ (is : k ≡ l). second (others m there_too (λ same. apart (ap (λ (x : Literal). x.var) (is ∙ sym same)))))
+    (λ (other : k ≢ l). first (others k there other))
+    (same_or_not k l)
 
 deep_none_false : (r : ℕ) → IsLive deep_clauses r
     → ((x : Literal) → Contains (entry_at deep_clauses r).lits x → IsFalseBelow deep_trail.entries 2 x) → ⊥
@@ -117,11 +120,13 @@ deep_none_unit : (r : ℕ) (l : Literal) → IsLive deep_clauses r → Contains 
     → ((x : Literal) → Contains (entry_at deep_clauses r).lits x → x ≢ l → IsFalseBelow deep_trail.entries 2 x) → ⊥
 unfolding deep_clauses deep_trail root_clauses root_trail
 deep_none_unit zero l live there free others =
-    two_open (entry_at deep_clauses 0).lits 2 3 false true (λ is. omega (arith, is)) (λ is. omega (arith, is)) (λ is. omega (arith, is))
-    (1, omega arith, refl) (2, omega arith, refl) l others
+    two_open deep_trail.entries 2 (entry_at deep_clauses 0).lits (literal 2 false) (literal 3 true) (λ is. omega (arith, is))
+    (1, omega arith, refl) (2, omega arith, refl) (not_below 2 false (λ is. omega (arith, is)))
+    (not_below 3 true (λ is. omega (arith, is))) l others
 deep_none_unit (suc zero) l live there free others =
-    two_open (entry_at deep_clauses 1).lits 2 3 false false (λ is. omega (arith, is)) (λ is. omega (arith, is)) (λ is. omega (arith, is))
-    (1, omega arith, refl) (2, omega arith, refl) l others
+    two_open deep_trail.entries 2 (entry_at deep_clauses 1).lits (literal 2 false) (literal 3 false) (λ is. omega (arith, is))
+    (1, omega arith, refl) (2, omega arith, refl) (not_below 2 false (λ is. omega (arith, is)))
+    (not_below 3 false (λ is. omega (arith, is))) l others
 deep_none_unit (suc (suc r)) l live there free others = omega (arith, live.present)
 
 deep_root_units : (k : ℕ) → k < length deep_trail.entries → (assigned_at deep_trail.entries k).level ≡ 0
@@ -148,6 +153,150 @@ deep_conflict = record {
   above_root = omega arith;
   root_units = deep_root_units;
   quiet = record { none_false = deep_none_false; none_unit = deep_none_unit };
+}
+
+-- a conflict with a root literal, and with a level between its own and that of its other literal
+each_of_four : (P : Literal → Type 0) (k l m n : Literal) → P k → P l → P m → P n → (x : Literal)
+    → Contains (k ∷ l ∷ m ∷ n ∷ []) x → P x
+each_of_four P k l m n first second third fourth x there = ⊎_elim
+    (λ (is : k ≡ x). subst P is first)
+    (λ (later : Contains (l ∷ m ∷ n ∷ []) x). each_of_three P l m n second third fourth x later)
+    (Contains-cons_cases k (l ∷ m ∷ n ∷ []) x there)
+
+-- what an entry of a place is follows by the place
+wide_each : (P : ℕ → Type 0) → P 0 → P 1 → P 2 → P 3 → P 4 → (k : ℕ) → k < length wide_trail.entries → P k
+unfolding wide_trail
+wide_each P first second third fourth fifth zero fits = first
+wide_each P first second third fourth fifth (suc zero) fits = second
+wide_each P first second third fourth fifth (suc (suc zero)) fits = third
+wide_each P first second third fourth fifth (suc (suc (suc zero))) fits = fourth
+wide_each P first second third fourth fifth (suc (suc (suc (suc zero)))) fits = fifth
+wide_each P first second third fourth fifth (suc (suc (suc (suc (suc k))))) fits = absurd (omega arith)
+
+wide_first : (j k : ℕ) → j < k → k < length wide_trail.entries → (assigned_at wide_trail.entries k).reason ≡ Decision
+    → (assigned_at wide_trail.entries j).level ≢ (assigned_at wide_trail.entries k).level
+unfolding wide_clauses wide_trail
+wide_first j zero before fits decided = absurd (omega arith)
+wide_first zero (suc zero) before fits decided = λ same. omega (arith, same)
+wide_first (suc j) (suc zero) before fits decided = absurd (omega arith)
+wide_first zero (suc (suc zero)) before fits decided = λ same. omega (arith, same)
+wide_first (suc zero) (suc (suc zero)) before fits decided = λ same. omega (arith, same)
+wide_first (suc (suc j)) (suc (suc zero)) before fits decided = absurd (omega arith)
+wide_first zero (suc (suc (suc zero))) before fits decided = λ same. omega (arith, same)
+wide_first (suc zero) (suc (suc (suc zero))) before fits decided = λ same. omega (arith, same)
+wide_first (suc (suc zero)) (suc (suc (suc zero))) before fits decided = λ same. omega (arith, same)
+wide_first (suc (suc (suc j))) (suc (suc (suc zero))) before fits decided = absurd (omega arith)
+wide_first j (suc (suc (suc (suc zero)))) before fits decided = absurd (cc)
+wide_first j (suc (suc (suc (suc (suc k))))) before fits decided = absurd (omega arith)
+
+wide_decisions : (k : ℕ) → k < length wide_trail.entries → (assigned_at wide_trail.entries k).reason ≡ Decision
+    → 0 < (assigned_at wide_trail.entries k).level
+unfolding wide_clauses wide_trail
+wide_decisions = wide_each
+    (λ k. (assigned_at wide_trail.entries k).reason ≡ Decision → 0 < (assigned_at wide_trail.entries k).level)
+    (λ decided. absurd (cc)) (λ decided. omega arith) (λ decided. omega arith) (λ decided. omega arith) (λ decided. omega arith)
+
+wide_units : (k id : ℕ) → k < length wide_trail.entries → (assigned_at wide_trail.entries k).reason ≡ ByUnit id
+    → (assigned_at wide_trail.entries k).level ≡ 0
+unfolding wide_clauses wide_trail
+wide_units zero id fits unit = refl
+wide_units (suc zero) id fits unit = absurd (cc)
+wide_units (suc (suc zero)) id fits unit = absurd (cc)
+wide_units (suc (suc (suc zero))) id fits unit = absurd (cc)
+wide_units (suc (suc (suc (suc zero)))) id fits unit = absurd (cc)
+wide_units (suc (suc (suc (suc (suc k))))) id fits unit = absurd (omega arith)
+
+wide_reason : IsReason wide_clauses wide_trail.entries 4 0
+unfolding wide_clauses wide_trail
+wide_reason = record {
+  live = record { present = omega arith; live = refl };
+  member = (3, omega arith, refl);
+  others = each_of_four (λ x. x ≢ literal 5 true → IsFalseBefore wide_trail.entries 4 x)
+      (literal 1 false) (literal 2 false) (literal 4 false) (literal 5 true)
+      (λ other. record { place = 0; before = omega arith; lit = refl })
+      (λ other. record { place = 1; before = omega arith; lit = refl })
+      (λ other. record { place = 3; before = omega arith; lit = refl })
+      (λ other. absurd (other refl));
+}
+
+wide_reason_of : (k r : ℕ) → k < length wide_trail.entries → (assigned_at wide_trail.entries k).reason ≡ ByClause r
+    → IsReason wide_clauses wide_trail.entries k r
+unfolding wide_clauses wide_trail
+wide_reason_of zero r fits because = absurd (cc)
+wide_reason_of (suc zero) r fits because = absurd (cc)
+wide_reason_of (suc (suc zero)) r fits because = absurd (cc)
+wide_reason_of (suc (suc (suc zero))) r fits because = absurd (cc)
+wide_reason_of (suc (suc (suc (suc zero)))) r fits because =
+    let which : 0 ≡ r = cc because in
+    subst (λ (n : ℕ). IsReason wide_clauses wide_trail.entries 4 n) which wide_reason
+wide_reason_of (suc (suc (suc (suc (suc k))))) r fits because = absurd (omega arith)
+
+wide_reasons : IsReasoned wide_clauses wide_trail.entries
+unfolding wide_clauses wide_trail
+wide_reasons = record { first_of_level = wide_first; decisions = wide_decisions; units = wide_units; clauses = wide_reason_of }
+
+-- only the first three variables have values below the level
+wide_low : (p : ℕ) (x : Literal) → p < length wide_trail.entries → (assigned_at wide_trail.entries p).lit ≡ negated x
+    → (assigned_at wide_trail.entries p).level < 3 → x.var ≤ 3
+unfolding wide_clauses wide_trail
+wide_low zero x fits is below = omega (arith, ap (λ (l : Literal). l.var) is)
+wide_low (suc zero) x fits is below = omega (arith, ap (λ (l : Literal). l.var) is)
+wide_low (suc (suc zero)) x fits is below = omega (arith, ap (λ (l : Literal). l.var) is)
+wide_low (suc (suc (suc zero))) x fits is below = absurd (omega arith)
+wide_low (suc (suc (suc (suc zero)))) x fits is below = absurd (omega arith)
+wide_low (suc (suc (suc (suc (suc k))))) x fits is below = absurd (omega arith)
+
+not_low : (x : Literal) → 3 < x.var → IsFalseBelow wide_trail.entries 3 x → ⊥
+not_low x high f = omega (arith, high, wide_low f.place x f.within f.lit f.below)
+
+wide_none_false : (r : ℕ) → IsLive wide_clauses r
+    → ((x : Literal) → Contains (entry_at wide_clauses r).lits x → IsFalseBelow wide_trail.entries 3 x) → ⊥
+unfolding wide_clauses wide_trail
+wide_none_false zero live all = not_low (literal 4 false) (omega arith) (all (literal 4 false) (2, omega arith, refl))
+wide_none_false (suc zero) live all = not_low (literal 4 false) (omega arith) (all (literal 4 false) (2, omega arith, refl))
+wide_none_false (suc (suc r)) live all = omega (arith, live.present)
+
+wide_none_unit : (r : ℕ) (l : Literal) → IsLive wide_clauses r → Contains (entry_at wide_clauses r).lits l
+    → IsFreeBelow wide_trail.entries 3 l.var
+    → ((x : Literal) → Contains (entry_at wide_clauses r).lits x → x ≢ l → IsFalseBelow wide_trail.entries 3 x) → ⊥
+unfolding wide_clauses wide_trail
+wide_none_unit zero l live there free others =
+    two_open wide_trail.entries 3 (entry_at wide_clauses 0).lits (literal 4 false) (literal 5 true) (λ is. omega (arith, is))
+    (2, omega arith, refl) (3, omega arith, refl) (not_low (literal 4 false) (omega arith)) (not_low (literal 5 true) (omega arith))
+    l others
+wide_none_unit (suc zero) l live there free others =
+    two_open wide_trail.entries 3 (entry_at wide_clauses 1).lits (literal 4 false) (literal 5 false) (λ is. omega (arith, is))
+    (2, omega arith, refl) (3, omega arith, refl) (not_low (literal 4 false) (omega arith)) (not_low (literal 5 false) (omega arith))
+    l others
+wide_none_unit (suc (suc r)) l live there free others = omega (arith, live.present)
+
+wide_root_units : (k : ℕ) → k < length wide_trail.entries → (assigned_at wide_trail.entries k).level ≡ 0
+    → IsUnit (assigned_at wide_trail.entries k)
+unfolding wide_clauses wide_trail
+wide_root_units zero fits root = record { id = 3; reason = refl }
+wide_root_units (suc zero) fits root = absurd (omega (arith, root))
+wide_root_units (suc (suc zero)) fits root = absurd (omega (arith, root))
+wide_root_units (suc (suc (suc zero))) fits root = absurd (omega (arith, root))
+wide_root_units (suc (suc (suc (suc zero)))) fits root = absurd (omega (arith, root))
+wide_root_units (suc (suc (suc (suc (suc k))))) fits root = absurd (omega arith)
+
+wide_conflict : IsConflict wide_clauses wide_trail 1
+unfolding wide_clauses wide_trail
+wide_conflict = record {
+  live = record { present = omega arith; live = refl };
+  all_false = each_of_four (IsFalse wide_trail.entries) (literal 1 false) (literal 2 false) (literal 4 false) (literal 5 false)
+      (record { place = 0; within = omega arith; lit = refl })
+      (record { place = 1; within = omega arith; lit = refl })
+      (record { place = 3; within = omega arith; lit = refl })
+      (record { place = 4; within = omega arith; lit = refl });
+  at_level = record {
+    literal = literal 4 false;
+    member = (2, omega arith, refl);
+    at_level = record { place = 3; within = omega arith; lit = refl; of_level = refl };
+  };
+  above_root = omega arith;
+  root_units = wide_root_units;
+  quiet = record { none_false = wide_none_false; none_unit = wide_none_unit };
 }
 
 -- a conflict at the root
@@ -191,12 +340,19 @@ root_reasons = record {
   clauses = root_reason_of;
 }
 
-pub examples_are_ready : ExamplesAreReady
+root_unit : (k : ℕ) → k < 1 → IsUnit (assigned_at root_trail.entries k)
 unfolding deep_clauses deep_trail root_clauses root_trail
+root_unit zero before = record { id = 3; reason = refl }
+root_unit (suc k) before = absurd (omega arith)
+
+pub examples_are_ready : ExamplesAreReady
+unfolding deep_clauses deep_trail wide_clauses wide_trail root_clauses root_trail
 examples_are_ready = record {
   deep_reasons = deep_reasons;
   deep_conflict = deep_conflict;
   deep_false = record { place = 2; within = omega arith; lit = refl };
+  wide_reasons = wide_reasons;
+  wide_conflict = wide_conflict;
   root_reasons = root_reasons;
   root_conflict = record {
     live = record { present = omega arith; live = refl };
@@ -205,5 +361,5 @@ examples_are_ready = record {
         (record { place = 1; within = omega arith; lit = refl; of_level = refl });
   };
   root_false = record { place = 1; within = omega arith; lit = refl };
-  unit_false = record { place = 0; within = omega arith; lit = refl };
+  root_true = record { place = 1; within = omega arith; lit = refl; at_root = refl; units = root_unit };
 }

@@ -1,11 +1,12 @@
 -- Which variables were met, after literals more.
-use Rattle.std.proofs.Common.{◌≡◌, ◌≢◌, ℕ, ◌+◌, ◌<◌, ◌≤◌, ◌==◌, Bool, true, List, [], ◌∷◌, ◌++◌, length, get_or, set, take, Contains, sym, ap, ◌∙◌, subst, inl, inr, ⊎_elim}
+use Rattle.std.proofs.Common.{◌≡◌, ◌≢◌, ℕ, ◌+◌, ◌<◌, ◌≤◌, ◌==◌, Bool, true, List, [], ◌∷◌, ◌++◌, length, get_or, set, take, Contains, sym}
+use Rattle.std.proofs.Common.{ap, ◌∙◌, subst, inl, inr, ⊎_elim}
 use Rattle.std.proofs.lemmas.Bool.{cases_eq, eq-eqb}
 use Rattle.std.proofs.lemmas.List.{get_or-set_same, get_or-set_other, take_more, take_all}
 use Rattle.std.proofs.lemmas.List.Elements.{Contains-push, Contains-push_cases, Contains-append_left, Contains-get_or}
 use Rattle.cnf_core.specs.Literals.{Literal, Literals}
 use Rattle.cnf_core.proofs.Lists.{Contains-head, Contains-nil, Contains-cons_cases}
-use Rattle.conflict_analysis.specs.Walks.{HasVar, IsGrown}
+use Rattle.conflict_analysis.specs.Steps.Walks.{HasVar, IsGrown}
 
 -- one variable's stamp is set
 pub mark_grown : (stamps : List ℕ) (stamp : ℕ) (x : Literal) → x.var < length stamps

@@ -4,7 +4,10 @@ pub mod Counts
 pub mod Growing
 pub mod Sorting
 pub mod Walking
+pub mod Marking
 pub mod Roots
+pub mod Units
 pub mod Outcomes
 pub mod Traces
+pub mod Cores
 pub mod Examples

@@ -2,7 +2,7 @@
 use Rattle.std.proofs.Common.{◌≡◌, ℕ, ◌<◌, Bool, true, false, not, length, refl, sym, ap, ◌∙◌}
 use Rattle.cnf_core.specs.Literals.{Literal, negated}
 use Rattle.trail_core.specs.Trails.{TrailState, assigned_at, IsTrail, HasVariable}
-use Rattle.conflict_analysis.specs.Reasons.{IsFalse}
+use Rattle.trail_core.specs.TrueAndFalse.{IsFalse}
 
 twice : (v : ℕ) (p : Bool) → negated (negated (record { var = v; positive = p })) ≡ record { var = v; positive = p }
 twice v true = refl

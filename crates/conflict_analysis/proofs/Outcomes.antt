@@ -13,10 +13,11 @@ use Rattle.lrat_lines.specs.Tight.{IsTight}
 use Rattle.lrat_lines.proofs.LiteralSets.{Contains_of_has, has_of_Contains}
 use Rattle.lrat_lines.proofs.Tightness.{tight_known, tight_is_rup}
 use Rattle.conflict_analysis.specs.Members.{IsLiveClause, IsRootUnit, IsMember, IsMapOf, IsProof}
-use Rattle.conflict_analysis.specs.Reasons.{IsFalse, IsFalseBelow, IsFreeBelow, IsQuietBelow, IsConflict}
+use Rattle.trail_core.specs.TrueAndFalse.{IsFalse, IsFalseBelow, IsFreeBelow}
+use Rattle.conflict_analysis.specs.Reasons.{IsQuietBelow, IsConflict}
 use Rattle.conflict_analysis.specs.Answers.{IsLearnt}
-use Rattle.conflict_analysis.specs.Walks.{WalkView, is_seen}
-use Rattle.conflict_analysis.specs.Learning.{IsLower, IsFound, CanLearn, IsDerived}
+use Rattle.conflict_analysis.specs.Steps.Walks.{WalkView, is_seen}
+use Rattle.conflict_analysis.specs.Steps.Learning.{IsLower, IsFound, CanLearn, IsDerived}
 use Rattle.conflict_analysis.proofs.Literals.{var_of_false, place_of_false, not_both_true}
 use Rattle.conflict_analysis.proofs.Deriving.{tight_of_derives}
 

@@ -1,5 +1,6 @@
 -- Root literals are resolved away by their units, and the highest level of literals.
-use Rattle.std.proofs.Common.{◌≡◌, ◌⊎◌, ℕ, ◌+◌, ◌<◌, ◌≤◌, List, [], ◌∷◌, ◌++◌, length, get_or, take, drop, reverse, max, Contains, refl, sym, ap, ◌∙◌, subst, inl, inr, ⊎_elim, arith}
+use Rattle.std.proofs.Common.{◌≡◌, ◌⊎◌, ℕ, ◌+◌, ◌<◌, ◌≤◌, List, [], ◌∷◌, ◌++◌, length, get_or, take, drop, reverse, max, Contains, refl}
+use Rattle.std.proofs.Common.{sym, ap, ◌∙◌, subst, inl, inr, ⊎_elim, arith}
 use Rattle.std.proofs.lemmas.Bool.{cases_lt}
 use Rattle.std.proofs.lemmas.Bool.Decides.{nat_tests}
 use Rattle.std.specs.Ordering.{ord_max, nat_cmp}
@@ -12,10 +13,10 @@ use Rattle.trail_core.specs.declared.entry.Reason.TheVariants.{Unit as ByUnit}
 use Rattle.trail_core.specs.Trails.{TrailState, assigned_at, IsTrail}
 use Rattle.lrat_lines.specs.Propagation.{Known}
 use Rattle.conflict_analysis.specs.Members.{IsMapOf}
-use Rattle.conflict_analysis.specs.Reasons.{IsFalse}
+use Rattle.trail_core.specs.TrueAndFalse.{IsFalse}
 use Rattle.conflict_analysis.specs.Answers.{IsHighest}
-use Rattle.conflict_analysis.specs.Resolvents.{Derives}
-use Rattle.conflict_analysis.specs.Learning.{IsFalseByUnit}
+use Rattle.conflict_analysis.specs.Steps.Resolvents.{Derives}
+use Rattle.conflict_analysis.specs.Steps.Learning.{IsFalseByUnit}
 use Rattle.conflict_analysis.proofs.Literals.{negation_back, var_of_false}
 use Rattle.conflict_analysis.proofs.Deriving.{derives_more, derives_same}
 use Rattle.conflict_analysis.proofs.Walking.{first_hint}
@@ -24,7 +25,7 @@ use Rattle.conflict_analysis.proofs.Walking.{first_hint}
 abbrev pub own_and : Literals → Literals → Literal → Type 0
 own_and own roots x = Contains own x ⊎ Contains roots x
 
-rest_cases : (roots : Literals) (i : ℕ) (x y : Literal) → i < length roots → x ≡ get_or roots i x → Contains (drop i roots) y
+pub rest_cases : (roots : Literals) (i : ℕ) (x y : Literal) → i < length roots → x ≡ get_or roots i x → Contains (drop i roots) y
     → (x ≡ y) ⊎ Contains (drop (i + 1) roots) y
 rest_cases roots i x y lt is there =
     Contains-cons_cases x (drop (i + 1) roots) y
@@ -35,20 +36,21 @@ rest_here roots i x lt is =
     subst (λ (d : Literals). Contains d x) (sym (drop_more roots i x lt ∙ ap (λ (z : Literal). z ∷ drop (i + 1) roots) (sym is)))
     (Contains-head x (drop (i + 1) roots))
 
-rest_later : (roots : Literals) (i : ℕ) (x y : Literal) → i < length roots → x ≡ get_or roots i x
+pub rest_later : (roots : Literals) (i : ℕ) (x y : Literal) → i < length roots → x ≡ get_or roots i x
     → Contains (drop (i + 1) roots) y → Contains (drop i roots) y
 rest_later roots i x y lt is there =
     subst (λ (d : Literals). Contains d y) (sym (drop_more roots i x lt ∙ ap (λ (z : Literal). z ∷ drop (i + 1) roots) (sym is)))
     (Contains-tail x (drop (i + 1) roots) y there)
 
 -- one root literal is resolved away by its unit
-pub root_resolved : (a : Entries) (t : TrailState) (known : Known) (own roots : Literals) (i : ℕ) (x : Literal) (id : ℕ)
-    (old new : List ℕ) → IsTrail t → i < length roots → x ≡ get_or roots i x → IsFalseByUnit t.entries x
+pub root_resolved : (a : Entries) (t : TrailState) (known : Known) (top : ℕ) (own roots : Literals) (i : ℕ) (x : Literal) (id : ℕ)
+    (old new : List ℕ) → IsTrail t → top ≤ length t.entries → i < length roots → x ≡ get_or roots i x
+    → (f : IsFalseByUnit t.entries x) → f.place < top
     → ((k : ℕ) → k < length t.entries → (assigned_at t.entries k).lit.var ≡ x.var → (assigned_at t.entries k).reason ≡ ByUnit id)
     → new ≡ old ++ id ∷ [] → IsMapOf a t.entries known
-    → Derives known t.entries (length t.entries) (own_and own (drop i roots)) (reverse old)
-    → Derives known t.entries (length t.entries) (own_and own (drop (i + 1) roots)) (reverse new)
-root_resolved a t known own roots i x id old new trail lt is f read new_is map d =
+    → Derives known t.entries top (own_and own (drop i roots)) (reverse old)
+    → Derives known t.entries top (own_and own (drop (i + 1) roots)) (reverse new)
+root_resolved a t known top own roots i x id old new trail short lt is f before read new_is map d =
     let l = (assigned_at t.entries f.place).lit in
     let member = map id (l ∷ []) (inr (record {
       place = f.place;
@@ -58,10 +60,10 @@ root_resolved a t known own roots i x id old new trail lt is f read new_is map d
       has_lits = refl;
     })) in
     let back : x ≡ negated l = negation_back l x f.lit in
-    subst (λ (hs : List ℕ). Derives known t.entries (length t.entries) (own_and own (drop (i + 1) roots)) hs)
+    subst (λ (hs : List ℕ). Derives known t.entries top (own_and own (drop (i + 1) roots)) hs)
     (sym (first_hint old new id new_is))
-    (derives_more known t (length t.entries) f.place id (l ∷ []) l (own_and own (drop i roots)) (own_and own (drop (i + 1) roots))
-    (reverse old) trail (omega arith) f.within refl member (Contains-head l [])
+    (derives_more known t top f.place id (l ∷ []) l (own_and own (drop i roots)) (own_and own (drop (i + 1) roots))
+    (reverse old) trail short before refl member (Contains-head l [])
     (inr (subst (λ (y : Literal). Contains (drop i roots) y) back (rest_here roots i x lt is)))
     (λ y in_d other. ⊎_elim
     (λ (owned : Contains own y). inl owned)
@@ -81,11 +83,11 @@ root_resolved a t known own roots i x id old new trail lt is f read new_is map d
     d)
 
 -- at the end none is left
-pub roots_resolved : (t : TrailState) (known : Known) (own roots : Literals) (i : ℕ) (hints : List ℕ) → length roots ≤ i
-    → Derives known t.entries (length t.entries) (own_and own (drop i roots)) hints
-    → Derives known t.entries (length t.entries) (Contains own) hints
-roots_resolved t known own roots i hints past d =
-    derives_same known t.entries (length t.entries) (own_and own (drop i roots)) (Contains own) hints
+pub roots_resolved : (t : TrailState) (known : Known) (top : ℕ) (own roots : Literals) (i : ℕ) (hints : List ℕ) → length roots ≤ i
+    → Derives known t.entries top (own_and own (drop i roots)) hints
+    → Derives known t.entries top (Contains own) hints
+roots_resolved t known top own roots i hints past d =
+    derives_same known t.entries top (own_and own (drop i roots)) (Contains own) hints
     (λ x in_d. ⊎_elim
     (λ (owned : Contains own x). owned)
     (λ (left : Contains (drop i roots) x). absurd (Contains-nil x

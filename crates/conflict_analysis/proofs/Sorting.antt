@@ -1,13 +1,14 @@
 -- What was met stays sorted by level when a literal is taken up.
-use Rattle.std.proofs.Common.{◌≡◌, ◌≢◌, ℕ, ◌+◌, ◌<◌, ◌≤◌, ◌==◌, ◌&&◌, Bool, true, false, [], ◌∷◌, ◌++◌, length, get_or, AllPairs, Contains, refl, sym, ap, ◌∙◌, subst, inl, inr, ⊎_elim, arith}
+use Rattle.std.proofs.Common.{◌≡◌, ◌≢◌, ℕ, ◌+◌, ◌<◌, ◌≤◌, ◌==◌, ◌&&◌, Bool, true, false, [], ◌∷◌, ◌++◌, length, get_or, AllPairs, Contains}
+use Rattle.std.proofs.Common.{refl, sym, ap, ◌∙◌, subst, inl, inr, ⊎_elim, arith}
 use Rattle.std.proofs.lemmas.Bool.{cases_Bool, cases_eq, eq-eqb, ne_eqb, both_ways, false_from_ne_true, and_from}
 use Rattle.std.proofs.lemmas.List.Elements.{Contains-push, Contains-push_cases, Contains-append_left, Contains-get_or}
 use Rattle.std.proofs.lemmas.List.Quantifiers.{all_pairs_push}
 use Rattle.cnf_core.specs.Literals.{Literal, Literals, negated}
 use Rattle.cnf_core.proofs.Lists.{Contains-head, Contains-nil, Contains-cons_cases}
 use Rattle.trail_core.specs.Trails.{TrailState, assigned_at, IsTrail}
-use Rattle.conflict_analysis.specs.Walks.{WalkView, is_seen, HasVar, IsGrown}
-use Rattle.conflict_analysis.specs.Learning.{is_open, open_count, IsLower, IsRoot, IsSorted}
+use Rattle.conflict_analysis.specs.Steps.Walks.{WalkView, is_seen, HasVar, IsGrown}
+use Rattle.conflict_analysis.specs.Steps.Learning.{is_open, open_count, IsLower, IsRoot, IsSorted}
 use Rattle.conflict_analysis.proofs.Literals.{negation_back, var_of_false}
 use Rattle.conflict_analysis.proofs.Counts.{count_same, count_more}
 
@@ -27,7 +28,7 @@ pub met_there : (t : TrailState) (x : Literal) (old new : ℕ → Bool) (p : ℕ
     → new (assigned_at t.entries p).lit.var ≡ true
 met_there t x old new p h = ap new (var_at t x old new p h) ∙ h.grown.marked x (Contains-head x [])
 
-unmet_there : (t : TrailState) (x : Literal) (old new : ℕ → Bool) (p : ℕ) → IsTaking t x old new p
+pub unmet_there : (t : TrailState) (x : Literal) (old new : ℕ → Bool) (p : ℕ) → IsTaking t x old new p
     → old (assigned_at t.entries p).lit.var ≡ false
 unmet_there t x old new p h = ap old (var_at t x old new p h) ∙ h.unseen
 
@@ -43,7 +44,7 @@ met_before t x old new p k h lt other now =
     (Contains-cons_cases x [] one.literal one.member))
     (h.grown.only (assigned_at t.entries k).lit.var now)
 
-elsewhere : (t : TrailState) (x : Literal) (old new : ℕ → Bool) (p k : ℕ) → IsTaking t x old new p
+pub elsewhere : (t : TrailState) (x : Literal) (old new : ℕ → Bool) (p k : ℕ) → IsTaking t x old new p
     → k < length t.entries → k ≢ p → new (assigned_at t.entries k).lit.var ≡ old (assigned_at t.entries k).lit.var
 elsewhere t x old new p k h lt other = elim (cases_Bool (old (assigned_at t.entries k).lit.var)) [
   | inl was ↦ h.grown.kept (assigned_at t.entries k).lit.var was ∙ sym was
@@ -60,7 +61,7 @@ pub count_of_present : (t : TrailState) (x : Literal) (old new : ℕ → Bool) (
     → end ≤ length t.entries → p < end → (assigned_at t.entries p).level ≡ t.level
     → open_count t.entries t.level new end ≡ open_count t.entries t.level old end + 1
 count_of_present t x old new p end h fits before present =
-    count_more t.entries t.level old new end p before
+    count_more (is_open t.entries t.level old) (is_open t.entries t.level new) end p before
     (ap (λ (b : Bool). b && ((assigned_at t.entries p).level == t.level)) (unmet_there t x old new p h))
     (and_from _ _ (met_there t x old new p h) (eq-eqb (assigned_at t.entries p).level t.level present))
     (λ k lt other. open_elsewhere t x old new p k h (omega arith) other)
@@ -79,7 +80,7 @@ pub count_of_other : (t : TrailState) (x : Literal) (old new : ℕ → Bool) (p 
     → end ≤ length t.entries → (assigned_at t.entries p).level ≢ t.level
     → open_count t.entries t.level new end ≡ open_count t.entries t.level old end
 count_of_other t x old new p end h fits other =
-    count_same t.entries t.level old new end (λ k lt. ⊎_elim
+    count_same (is_open t.entries t.level old) (is_open t.entries t.level new) end (λ k lt. ⊎_elim
     (λ (is : k ≡ p). subst (λ (i : ℕ). is_open t.entries t.level new i ≡ is_open t.entries t.level old i) (sym is)
     (open_of_other_level t new p other ∙ sym (open_of_other_level t old p other)))
     (λ (away : k ≢ p). open_elsewhere t x old new p k h (omega arith) away)

@@ -1,5 +1,6 @@
 -- The walk that learns: literals are taken up, clauses added, entries resolved.
-use Rattle.std.proofs.Common.{◌≡◌, ◌≢◌, ◌⊎◌, ℕ, ◌+◌, ◌-◌, ◌^◌, ◌<◌, ◌≤◌, ◌==◌, ◌&&◌, Bool, true, false, List, [], ◌∷◌, ◌++◌, length, get_or, set, take, reverse, AllPairs, Contains, refl, sym, ap, ◌∙◌, subst, inl, inr, ⊎_elim, arith}
+use Rattle.std.proofs.Common.{◌≡◌, ◌≢◌, ◌⊎◌, ℕ, ◌+◌, ◌-◌, ◌^◌, ◌<◌, ◌≤◌, ◌==◌, ◌&&◌, Bool, true, false, List, [], ◌∷◌, ◌++◌, length, get_or}
+use Rattle.std.proofs.Common.{set, take, reverse, AllPairs, Contains, refl, sym, ap, ◌∙◌, subst, inl, inr, ⊎_elim, arith}
 use Rattle.std.proofs.lemmas.Bool.{cases_eq, cases_lt, eq-eqb, eqb-true, both_ways, and_parts, and_from}
 use Rattle.std.proofs.lemmas.List.{reverse-append}
 use Rattle.cnf_core.specs.Literals.{Literal, Literals, negated}
@@ -12,13 +13,15 @@ use Rattle.trail_core.specs.Trails.{TrailState, assigned_at, IsTrail}
 use Rattle.lrat_lines.specs.Propagation.{Known}
 use Rattle.lrat_lines.proofs.Tightness.{same_or_not}
 use Rattle.conflict_analysis.specs.Members.{IsMapOf, HasClause}
-use Rattle.conflict_analysis.specs.Reasons.{IsFalse, IsFalseBefore, IsReason, IsConflict}
-use Rattle.conflict_analysis.specs.Walks.{WalkView, is_seen, IsStarted, HasVar, IsGrown}
-use Rattle.conflict_analysis.specs.Resolvents.{Derives, IsLeft}
-use Rattle.conflict_analysis.specs.Learning.{is_open, open_count, IsSorted, CanTake, IsTaken, AreTakeable, CanAdd, IsAdded, IsWalked, CanWalk, CanResolve, IsLastSeen, HasSeen, IsFound}
+use Rattle.trail_core.specs.TrueAndFalse.{IsFalse, IsFalseBefore}
+use Rattle.conflict_analysis.specs.Reasons.{IsReason, IsConflict}
+use Rattle.conflict_analysis.specs.Steps.Walks.{WalkView, is_seen, IsStarted, HasVar, IsGrown, AreTakeable, IsLastSeen, HasSeen}
+use Rattle.conflict_analysis.specs.Steps.Resolvents.{Derives, IsLeft}
+use Rattle.conflict_analysis.specs.Steps.Learning.{is_open, open_count, IsSorted, CanTake, IsTaken, CanAdd, IsAdded, IsWalked, CanWalk}
+use Rattle.conflict_analysis.specs.Steps.Learning.{CanResolve, IsFound}
 use Rattle.conflict_analysis.proofs.Literals.{negated-negated, negation_back, var_of_false, place_of_false}
 use Rattle.conflict_analysis.proofs.Deriving.{derives_clause, derives_same, derives_more}
-use Rattle.conflict_analysis.proofs.Counts.{count_open, count_le, count_down, count_some, count_none, HasOpen}
+use Rattle.conflict_analysis.proofs.Counts.{count_open, count_le, count_down, count_some, count_none, HasPlace}
 use Rattle.conflict_analysis.proofs.Growing.{mark_grown, grown_nothing, grown_more, grown_past, grown_all, element_is_member}
 use Rattle.conflict_analysis.proofs.Sorting.{IsTaking, count_of_present, sorted_present, sorted_root, sorted_lower}
 
@@ -61,7 +64,7 @@ room_to_count t x old mid v level can is made read present =
     let f = can.false_before in
     let at_top = sym (read f.place h.within (var_of_false _ x f.lit)) ∙ present in
     let one = count_of_present t x (is_seen old) (is_seen (marked old x.var)) f.place can.end h can.within f.before at_top in
-    let most = count_le t.entries t.level (is_seen (marked old x.var)) can.end in
+    let most = count_le (is_open t.entries t.level (is_seen (marked old x.var))) can.end in
     let count : mid.count ≡ old.count = ap (λ (w : WalkView). w.count) made in
     omega (arith, one, most, count, can.sorted.counted, can.short)
 
@@ -217,18 +220,18 @@ open_is t seen k is =
     let parts = and_parts _ _ is in
     (parts.0, eqb-true (assigned_at t.entries k).level t.level parts.1)
 
-count_has : (t : TrailState) (seen : ℕ → Bool) (n : ℕ) → HasOpen t.entries t.level seen n
+count_has : (t : TrailState) (seen : ℕ → Bool) (n : ℕ) → HasPlace (is_open t.entries t.level seen) n
     → 0 < open_count t.entries t.level seen n
 count_has t seen n h = ⊎_elim
     (λ (some : 0 < open_count t.entries t.level seen n). some)
     (λ (none : open_count t.entries t.level seen n ≤ 0). absurd (both_ways (is_open t.entries t.level seen h.place)
-    (count_none t.entries t.level seen n h.place (omega arith) h.before) h.is))
+    (count_none (is_open t.entries t.level seen) n h.place (omega arith) h.before) h.is))
     (cases_lt 0 (open_count t.entries t.level seen n))
 
 pub seen_of_walked : (a : Entries) (t : TrailState) (end : ℕ) (w : WalkView) → IsWalked a t end w
     → HasSeen t.entries (is_seen w) end
 seen_of_walked a t end w h =
-    let o = count_some t.entries t.level (is_seen w) end (omega (arith, h.some, h.sorted.counted)) in
+    let o = count_some (is_open t.entries t.level (is_seen w)) end (omega (arith, h.some, h.sorted.counted)) in
     record { place = o.place; before = o.before; met = (open_is t (is_seen w) o.place o.is).0 }
 
 unmet_is_closed : (t : TrailState) (seen : ℕ → Bool) (k : ℕ) → seen (assigned_at t.entries k).lit.var ≡ false
@@ -247,7 +250,7 @@ walked_down a t end place w h last = record {
     once = s.once;
     roots_only = s.roots_only;
     roots_all = s.roots_all;
-    counted = s.counted ∙ count_down t.entries t.level (is_seen w) (place + 1) end (omega (arith, last.before))
+    counted = s.counted ∙ count_down (is_open t.entries t.level (is_seen w)) (place + 1) end (omega (arith, last.before))
         (λ k from lt. unmet_is_closed t (is_seen w) k (last.none_after k (omega arith) lt));
   });
   some = h.some;
@@ -266,7 +269,7 @@ walked_down a t end place w h last = record {
 pub top_of_walked : (a : Entries) (t : TrailState) (place : ℕ) (w : WalkView) → IsTrail t → IsWalked a t (place + 1) w
     → (assigned_at t.entries place).level ≡ t.level
 top_of_walked a t place w trail h =
-    let o = count_some t.entries t.level (is_seen w) (place + 1) (omega (arith, h.some, h.sorted.counted)) in
+    let o = count_some (is_open t.entries t.level (is_seen w)) (place + 1) (omega (arith, h.some, h.sorted.counted)) in
     let of_level = (open_is t (is_seen w) o.place o.is).1 in
     let fits : place < length t.entries = omega (arith, h.within) in
     let rises = trail.leveled.rises o.place place (omega (arith, o.before)) fits in
@@ -278,13 +281,13 @@ open_below : (a : Entries) (t : TrailState) (place : ℕ) (w : WalkView) → IsT
     → is_seen w (assigned_at t.entries place).lit.var ≡ true
     → w.count ≡ open_count t.entries t.level (is_seen w) place + 1
 open_below a t place w trail h met =
-    h.sorted.counted ∙ count_open t.entries t.level (is_seen w) place
+    h.sorted.counted ∙ count_open (is_open t.entries t.level (is_seen w)) place
     (and_from _ _ met (eq-eqb (assigned_at t.entries place).level t.level (top_of_walked a t place w trail h)))
 
 another_open : (a : Entries) (t : TrailState) (w : WalkView) (place : ℕ) → CanResolve a t w place
-    → HasOpen t.entries t.level (is_seen w) place
+    → HasPlace (is_open t.entries t.level (is_seen w)) place
 another_open a t w place h =
-    count_some t.entries t.level (is_seen w) place
+    count_some (is_open t.entries t.level (is_seen w)) place
     (omega (arith, open_below a t place w h.can_walk.trail h.walked h.met, h.another))
 
 by_reason : (why : Reason) (P : Type 0) → (why ≡ Decision → P) → ((r : ℕ) → why ≡ ByClause r → P)
@@ -492,7 +495,7 @@ found a t end place w trail walked last few =
     λ k lt met. (let most = level_le t k trail (omega (arith, lt, fits)) in
     ⊎_elim
     (λ (same : (assigned_at t.entries k).level ≡ t.level). absurd (both_ways (is_open t.entries t.level (is_seen w) k)
-    (count_none t.entries t.level (is_seen w) place k none lt)
+    (count_none (is_open t.entries t.level (is_seen w)) place k none lt)
     (and_from _ _ met (eq-eqb (assigned_at t.entries k).level t.level same))))
     (λ (other : (assigned_at t.entries k).level ≢ t.level). omega (arith, most, other))
     (cases_eq (assigned_at t.entries k).level t.level)) in
@@ -562,7 +565,7 @@ may_resolve a t end place first w can size walked last many = record {
 nothing_open : (t : TrailState) (seen : ℕ → Bool) (n : ℕ) → ((v : ℕ) → seen v ≡ false)
     → open_count t.entries t.level seen n ≡ 0
 nothing_open t seen n none = ⊎_elim
-    (λ (some : 0 < open_count t.entries t.level seen n). (let o = count_some t.entries t.level seen n some in
+    (λ (some : 0 < open_count t.entries t.level seen n). (let o = count_some (is_open t.entries t.level seen) n some in
     absurd (both_ways (seen (assigned_at t.entries o.place).lit.var) (none (assigned_at t.entries o.place).lit.var)
     (open_is t seen o.place o.is).0)))
     (λ (zero : open_count t.entries t.level seen n ≤ 0). omega arith)

@@ -9,7 +9,8 @@ use Rattle.lrat_lines.specs.Sets.{IsSubset}
 use Rattle.lrat_lines.specs.Propagation.{Known}
 use Rattle.lrat_lines.specs.Tight.{IsTight}
 use Rattle.conflict_analysis.specs.Members.{IsMember, IsMapOf, IsProof}
-use Rattle.conflict_analysis.specs.Reasons.{IsFalse, IsFalseAt, IsFalseBelow, HasFalseAt}
+use Rattle.trail_core.specs.TrueAndFalse.{IsFalse, IsFalseAt, IsFalseBelow}
+use Rattle.conflict_analysis.specs.Reasons.{HasFalseAt}
 
 -- the number is the highest level at which a literal is false, or 0
 pub record IsHighest (es : List Assigned) (lits : Literals) (highest : ℕ) : Type 0 where
@@ -42,8 +43,10 @@ pub record NegatesDecision (es : List Assigned) (l : Literal) : Type 0 where
   pub lit : l ≡ negated (assigned_at es place).lit
 
 -- a clause over the negations of a literal and of decisions, that of the literal among them, which is
--- proved from every map of the members
+-- proved from every map of the members. Each variable stands in it once, but where the literal is false by
+-- a decision: then the clause has both its signs
 pub record IsCore (a : Entries) (t : TrailState) (lit : Literal) (lits : Literals) (hints : List ℕ) : Type 0 where
   pub drawn : (x : Literal) → Contains lits x → (x ≡ negated lit) ⊎ NegatesDecision t.entries x
   pub own : Contains lits (negated lit)
+  pub each_once : (NegatesDecision t.entries lit → ⊥) → AllPairs (λ k l. k.var ≢ l.var) lits
   pub proved : (known : Known) → IsMapOf a t.entries known → IsProof known hints lits

@@ -1,38 +1,11 @@
 -- What analysis asks of a trail and an arena: reasons that imply their entries, and a conflict.
-use Rattle.std.specs.Prelude.{◌≡◌, ◌≢◌, ℕ, ◌<◌, ◌≤◌, List, length, Contains}
-use Rattle.cnf_core.specs.Literals.{Literal, Literals, negated}
+use Rattle.std.specs.Prelude.{◌≡◌, ◌≢◌, ℕ, ◌<◌, List, length, Contains}
+use Rattle.cnf_core.specs.Literals.{Literal, Literals}
 use Rattle.clause_arena.specs.Entries.{Entries, entry_at, IsLive}
 use Rattle.trail_core.specs.declared.entry.Assigned.{Assigned}
 use Rattle.trail_core.specs.declared.entry.Reason.TheVariants.{Decision, Clause as ByClause, Unit as ByUnit}
-use Rattle.trail_core.specs.Trails.{TrailState, assigned_at, HasLiteral}
-
--- some entry makes the literal false
-abbrev pub IsFalse : List Assigned → Literal → Type 0
-IsFalse es l = HasLiteral es (negated l)
-
--- one before this place does
-pub record IsFalseBefore (es : List Assigned) (end : ℕ) (l : Literal) : Type 0 where
-  pub place : ℕ
-  pub before : place < end
-  pub lit : (assigned_at es place).lit ≡ negated l
-
--- one of this level does
-pub record IsFalseAt (es : List Assigned) (level : ℕ) (l : Literal) : Type 0 where
-  pub place : ℕ
-  pub within : place < length es
-  pub lit : (assigned_at es place).lit ≡ negated l
-  pub of_level : (assigned_at es place).level ≡ level
-
--- one of a lower level does
-pub record IsFalseBelow (es : List Assigned) (level : ℕ) (l : Literal) : Type 0 where
-  pub place : ℕ
-  pub within : place < length es
-  pub lit : (assigned_at es place).lit ≡ negated l
-  pub below : (assigned_at es place).level < level
-
--- no entry of a lower level gives the variable a value
-abbrev pub IsFreeBelow : List Assigned → ℕ → ℕ → Type 0
-IsFreeBelow es level v = (k : ℕ) → k < length es → (assigned_at es k).lit.var ≡ v → level ≤ (assigned_at es k).level
+use Rattle.trail_core.specs.Trails.{TrailState, assigned_at}
+use Rattle.trail_core.specs.TrueAndFalse.{IsFalse, IsFalseBefore, IsFalseAt, IsFalseBelow, IsFreeBelow}
 
 -- the clause implies the entry's literal: it has it, and its others were false when the entry came
 pub record IsReason (a : Entries) (es : List Assigned) (place reference : ℕ) : Type 0 where
@@ -62,6 +35,14 @@ pub record IsQuietBelow (a : Entries) (es : List Assigned) (level : ℕ) : Type 
 pub record IsUnit (e : Assigned) : Type 0 where
   pub id : ℕ
   pub reason : e.reason ≡ ByUnit id
+
+-- the literal is true at the root, and the entries before its own have units as reasons
+pub record IsRootLiteral (es : List Assigned) (l : Literal) : Type 0 where
+  pub place : ℕ
+  pub within : place < length es
+  pub lit : (assigned_at es place).lit ≡ l
+  pub at_root : (assigned_at es place).level ≡ 0
+  pub units : (k : ℕ) → k < place → IsUnit (assigned_at es k)
 
 -- some literal of the clause is false at the level
 pub record HasFalseAt (es : List Assigned) (level : ℕ) (c : Literals) : Type 0 where

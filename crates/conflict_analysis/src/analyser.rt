@@ -1,8 +1,9 @@
-ghost use Rattle.std.specs.Prelude.{◌≡◌, ◌+◌, ◌^◌, ◌≤◌, ℕ, [], IfOk};
+ghost use Rattle.std.specs.Prelude.{◌≡◌, ◌+◌, ◌^◌, ◌≤◌, ℕ, [], ◌∷◌, IfOk};
 ghost use Rattle.cnf_core.specs.Literals.{negated};
 ghost use Rattle.lrat_lines.specs.Propagation.{Known};
 ghost use Rattle.conflict_analysis.specs.Members.{IsMapOf, IsProof};
-ghost use Rattle.conflict_analysis.specs.Reasons.{IsFalse, IsReasoned, IsConflict, IsRootConflict};
+ghost use Rattle.trail_core.specs.TrueAndFalse.{IsFalse};
+ghost use Rattle.conflict_analysis.specs.Reasons.{IsReasoned, IsRootLiteral, IsConflict, IsRootConflict};
 ghost use Rattle.conflict_analysis.specs.Answers.{IsLearnt, IsCore};
 
 use crate::walk::Walk;
@@ -92,8 +93,21 @@ impl Analyser {
         self.walk.refute(arena, trail, conflict)
     }
 
+    /// The hints that prove a literal as a unit clause: the units of the other literals of its reason, and the
+    /// reason. The literal is true at the root, and the entries before its own have units as reasons. So a
+    /// search that goes along its root entries shows each of them in the length of its reason.
+    pub fn unit_hints(&mut self, arena: &Arena, trail: &Trail, lit: Lit) -> Result<Ids, NoMemory>
+        requires reasons { IsReasoned arena.now trail.now.entries }
+        requires root { IsRootLiteral trail.now.entries lit }
+        ensures proved { IfOk result (λ hints. (known : Known) → IsMapOf arena.now trail.now.entries known
+            → IsProof known hints (lit ∷ [])) }
+        ensures same { self.new ≡ self.old }
+    {
+        self.walk.unit(arena, trail, lit)
+    }
+
     /// Why a literal is false: a clause that has its negation, and otherwise negations of decisions. The
-    /// level to go back to is 0.
+    /// level to go back to is 0. The walk ends at the first decision that is gathered.
     pub fn final_core(&mut self, arena: &Arena, trail: &Trail, lit: Lit) -> Result<Learnt, NoMemory>
         requires vars { self.old ≡ trail.now.vars }
         requires reasons { IsReasoned arena.now trail.now.entries }

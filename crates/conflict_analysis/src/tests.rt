@@ -3,7 +3,8 @@ ghost use Rattle.std.specs.Prelude.{◌≡◌, ◌+◌, ℕ, IfOk, IsTrue, true}
 ghost use Rattle.cnf_core.specs.Literals.{IsWithin};
 ghost use Rattle.trail_core.specs.Trails.{IsFree, with_entry};
 ghost use Rattle.trail_core.specs.declared.entry.Reason.TheVariants.{Decision};
-ghost use Rattle.conflict_analysis.specs.Examples.{deep_clauses, deep_trail, root_clauses, root_trail, ExamplesAreReady};
+ghost use Rattle.conflict_analysis.specs.Examples.{deep_clauses, deep_trail, wide_clauses, wide_trail, root_clauses, root_trail};
+ghost use Rattle.conflict_analysis.specs.Examples.{ExamplesAreReady};
 
 use crate::{Analyser, Learnt};
 use clause_arena::{Arena, ClauseRef};
@@ -76,6 +77,38 @@ fn deep_trail(rt: &impl Abort, alloc: Global) -> Result<Trail, NoMemory>
     Ok(trail)
 }
 
+/// The clauses `-1 -2 -4 5` and `-1 -2 -4 -5` with the ids 1 and 2.
+#[tactic(auto, unfolding(crate::specs::Examples::wide_clauses))]
+fn wide_clauses(alloc: Global) -> Result<Arena, NoMemory>
+    ensures { IfOk result (λ a. a ≡ wide_clauses) }
+{
+    let mut arena = Arena::new(alloc);
+    let [first, second, third] = [Lit::new(1, false), Lit::new(2, false), Lit::new(4, false)];
+    arena.add(&[first, second, third, Lit::new(5, true)], 1, false)?;
+    arena.add(&[first, second, third, Lit::new(5, false)], 2, false)?;
+    Ok(arena)
+}
+
+/// 1 by a unit with the id 3, the decisions 2, 3 and 4, and 5 by the first clause.
+#[tactic(auto, unfolding(crate::specs::Examples::wide_trail))]
+fn wide_trail(rt: &impl Abort, alloc: Global) -> Result<Trail, NoMemory>
+    ensures trail { IfOk result (λ t. t ≡ wide_trail) }
+    ensures vars { IfOk result (λ t. t.vars ≡ 5) }
+{
+    let mut trail = Trail::new(alloc, 5)?;
+    push(rt, &mut trail, Lit::new(1, true), Reason::Unit(3));
+    decide(rt, &mut trail, Lit::new(2, true));
+    decide(rt, &mut trail, Lit::new(3, true));
+    decide(rt, &mut trail, Lit::new(4, true));
+    push(
+        rt,
+        &mut trail,
+        Lit::new(5, true),
+        Reason::Clause(ClauseRef::at(0)),
+    );
+    Ok(trail)
+}
+
 /// The clauses `-1 2` and `-1 -2` with the ids 1 and 2.
 #[tactic(auto, unfolding(crate::specs::Examples::root_clauses))]
 fn root_clauses(alloc: Global) -> Result<Arena, NoMemory>
@@ -113,6 +146,16 @@ fn deep_learnt(rt: &impl Abort, alloc: Global) -> Result<Learnt, NoMemory> {
     analyser.analyse(&arena, &trail, ClauseRef::at(1))
 }
 
+/// What the conflict with a root literal teaches.
+fn wide_learnt(rt: &impl Abort, alloc: Global) -> Result<Learnt, NoMemory> {
+    examples_are_ready();
+    let arena = wide_clauses(alloc)?;
+    let trail = wide_trail(rt, alloc)?;
+    let mut analyser = Analyser::new(alloc, 5)?;
+    shared(&analyser);
+    analyser.analyse(&arena, &trail, ClauseRef::at(1))
+}
+
 /// Why -3 is false below them.
 fn deep_core(rt: &impl Abort, alloc: Global) -> Result<Learnt, NoMemory> {
     examples_are_ready();
@@ -129,6 +172,15 @@ fn root_hints(rt: &impl Abort, alloc: Global) -> Result<Ids, NoMemory> {
     let trail = root_trail(rt, alloc)?;
     let mut analyser = Analyser::new(alloc, 2)?;
     analyser.refute_root(&arena, &trail, ClauseRef::at(1))
+}
+
+/// The hints of 2 as a unit clause.
+fn root_unit_hints(rt: &impl Abort, alloc: Global) -> Result<Ids, NoMemory> {
+    examples_are_ready();
+    let arena = root_clauses(alloc)?;
+    let trail = root_trail(rt, alloc)?;
+    let mut analyser = Analyser::new(alloc, 2)?;
+    analyser.unit_hints(&arena, &trail, Lit::new(2, true))
 }
 
 /// Why -2 is false at the root, by a clause and a unit.
@@ -169,6 +221,13 @@ fn a_conflict_below_two_decisions_teaches_that_one_is_wrong(rt: HostRuntime) -> 
 }
 
 #[test]
+fn root_literals_stay_out_and_a_level_between_is_jumped_over(rt: HostRuntime) -> Result<(), Fail> {
+    let learnt = wide_learnt(&rt, rt.alloc())?;
+    assert!(rt; is_answer(rt.alloc(), &learnt, &[-4, -2], 1, &[3, 1, 2])?);
+    Ok(())
+}
+
+#[test]
 fn the_core_of_a_literal_below_two_decisions_has_both(rt: HostRuntime) -> Result<(), Fail> {
     let core = deep_core(&rt, rt.alloc())?;
     assert!(rt; is_answer(rt.alloc(), &core, &[3, -2, -1], 0, &[1])?);
@@ -179,6 +238,15 @@ fn the_core_of_a_literal_below_two_decisions_has_both(rt: HostRuntime) -> Result
 fn a_conflict_at_the_root_is_refuted_from_the_unit_on(rt: HostRuntime) -> Result<(), Fail> {
     let hints = root_hints(&rt, rt.alloc())?;
     assert!(rt; hints.ids.as_slice() == [3u64, 1, 2].as_slice());
+    Ok(())
+}
+
+#[test]
+fn a_root_literal_is_shown_by_the_unit_of_the_other_and_its_reason(
+    rt: HostRuntime,
+) -> Result<(), Fail> {
+    let hints = root_unit_hints(&rt, rt.alloc())?;
+    assert!(rt; hints.ids.as_slice() == [3u64, 1].as_slice());
     Ok(())
 }
 

@@ -1,16 +1,21 @@
-ghost use Rattle.std.specs.Prelude.{◌≡◌, ◌+◌, ◌-◌, ◌^◌, ◌<◌, ◌≤◌, ℕ, [], ◌∷◌, ◌++◌, length, reverse, slice_index, slice_set, Contains, true, IfOk, OnOk};
+ghost use Rattle.std.specs.Prelude.{◌≡◌, ◌≢◌, ◌+◌, ◌-◌, ◌^◌, ◌<◌, ◌≤◌, ℕ, [], ◌∷◌, ◌++◌, length, reverse, slice_index, slice_set, Contains};
+ghost use Rattle.std.specs.Prelude.{true, IfOk, OnOk};
+ghost use Rattle.std.specs.Vec.{vec_len};
 ghost use Rattle.cnf_core.specs.Literals.{Literal, negated};
-ghost use Rattle.clause_arena.specs.Entries.{IsLive};
+ghost use Rattle.clause_arena.specs.Entries.{IsLive, entry_at};
 ghost use Rattle.trail_core.specs.Trails.{assigned_at, IsTrail};
+ghost use Rattle.trail_core.specs.TrueAndFalse.{IsFalse};
 ghost use Rattle.trail_core.specs.declared.entry.Reason.TheVariants.{Unit as ByUnit};
 ghost use Rattle.lrat_lines.specs.Propagation.{Known};
 ghost use Rattle.conflict_analysis.specs.Members.{IsMapOf, IsProof};
-ghost use Rattle.conflict_analysis.specs.Reasons.{IsFalse, IsReasoned, IsConflict, IsRootConflict};
+ghost use Rattle.conflict_analysis.specs.Reasons.{IsReasoned, IsRootLiteral, IsConflict, IsRootConflict};
 ghost use Rattle.conflict_analysis.specs.Answers.{IsHighest, IsLearnt, IsCore};
-ghost use Rattle.conflict_analysis.specs.Walks.{is_seen, IsStarted};
-ghost use Rattle.conflict_analysis.specs.Learning.{CanTake, IsTaken, CanAdd, IsAdded, CanWalk, CanResolve, IsWalked, HasSeen, IsLastSeen, IsFound, IsFalseByUnit, ResolvesRoots, CanLearn, IsDerived};
-ghost use Rattle.conflict_analysis.specs.Tracing.{CanMark, IsMarked, CanTrace, IsVisited, IsAllTraced, IsFalseBy, IsCoreBegun};
-ghost use Rattle.std.specs.Vec.{vec_len};
+ghost use Rattle.conflict_analysis.specs.Steps.Walks.{is_seen, IsStarted, HasSeen, IsLastSeen};
+ghost use Rattle.conflict_analysis.specs.Steps.Learning.{CanTake, IsTaken, CanAdd, IsAdded, CanWalk, CanResolve, IsWalked, IsFound};
+ghost use Rattle.conflict_analysis.specs.Steps.Learning.{IsFalseByUnit, ResolvesRoots, ResolvesOthers, CanLearn, IsDerived, CanShow};
+ghost use Rattle.conflict_analysis.specs.Steps.Learning.{ShowsLiteral};
+ghost use Rattle.conflict_analysis.specs.Steps.Tracing.{CanMark, IsMarked, IsCounted, CanTrace, CanVisit, IsVisited, IsAllTraced};
+ghost use Rattle.conflict_analysis.specs.Steps.Tracing.{IsFalseBy, IsCoreBegun};
 
 use crate::Learnt;
 use clause_arena::{Arena, ClauseRef};
@@ -32,12 +37,13 @@ pub struct Walk {
     roots: Vec<Lit>,
     /// The ids of what was resolved, the first hint last.
     hints: Vec<u64>,
-    /// How many of the met literals are false at the present level and not resolved.
+    /// How many of the met literals are left to look at: of those of the present level where a clause is
+    /// learnt, and of all where reasons are followed down to decisions.
     count: u32,
 }
 
 impl Model for Walk {
-    ghost use Rattle.conflict_analysis.specs.Walks.{WalkView, IsStamped};
+    ghost use Rattle.conflict_analysis.specs.Steps.Walks.{WalkView, IsStamped};
 
     ghost Value = { WalkView };
 
@@ -161,7 +167,7 @@ impl Walk {
     {
         let end = trail.len();
         self.start();
-        self.mark_clause(arena, conflict)?;
+        self.mark_clause(arena, trail, conflict)?;
         self.trace(arena, trail, end)?;
         self.hints_in_order()
     }
@@ -177,6 +183,7 @@ impl Walk {
     {
         let place = trail.place_of(lit.var());
         self.start();
+        self.mark(lit.var());
         self.add_literal(lit.negated())?;
         self.find_core(arena, trail, lit, place)?;
         Ok(Learnt {
@@ -186,6 +193,19 @@ impl Walk {
             back: 0,
             hints: self.hints_in_order()?,
         })
+    }
+
+    /// The hints that prove a literal that is true at the root as a unit clause.
+    pub fn unit(&mut self, arena: &Arena, trail: &Trail, lit: Lit) -> Result<Ids, NoMemory>
+        requires reasons { IsReasoned arena.now trail.now.entries }
+        requires root { IsRootLiteral trail.now.entries lit }
+        ensures proved { IfOk result (λ hints. ShowsLiteral arena.now trail.now.entries lit hints) }
+        ensures size { length self.new.stamps ≡ length self.old.stamps }
+    {
+        let place = trail.place_of(lit.var());
+        self.start();
+        self.find_unit(arena, trail, lit, place)?;
+        self.hints_in_order()
     }
 
     /// Begins anew: nothing is met or gathered.
@@ -246,7 +266,7 @@ impl Walk {
         Ok(())
     }
 
-    /// How many met literals of the present level are left.
+    /// How many met literals are left to look at.
     fn count(&self) -> u32
         ensures { result ≡ self.now.count }
     {
@@ -376,44 +396,58 @@ impl Walk {
         Ok(Ids { ids })
     }
 
-    /// Marks the variables of a clause, and adds its id.
-    fn mark_clause(&mut self, arena: &Arena, r: ClauseRef) -> Result<(), NoMemory>
-        requires { CanMark arena.now self.old r }
-        ensures marked { OnOk result (IsMarked arena.now r self.old self.new) }
+    /// From here on the variable was met, and its entry is to be looked at.
+    fn meet(&mut self, var: u32)
+        requires within { var < length self.old.stamps }
+        requires room { self.old.count + 1 < 2 ^ 32 }
+        ensures { self.new ≡ record self.old { stamps = slice_set self.old.stamps var self.old.stamp; count = self.old.count + 1 } }
+    {
+        self.mark(var);
+        self.count_up();
+    }
+
+    /// Marks the variables of a clause, counts those that were not met, and adds its id.
+    fn mark_clause(&mut self, arena: &Arena, trail: &Trail, r: ClauseRef) -> Result<(), NoMemory>
+        requires { CanMark arena.now trail.now self.old r }
+        ensures marked { OnOk result (IsMarked arena.now trail.now r self.old self.new) }
         ensures size { length self.new.stamps ≡ length self.old.stamps }
     {
         for lit in arena.lits(r) {
-            self.mark(lit.var());
+            if !self.is_seen(lit.var()) {
+                self.meet(lit.var());
+            }
         }
         self.add_hint(arena.id(r))
     }
 
     /// Follows the reason of an entry whose variable was met; a decision's negation is gathered.
     fn visit(&mut self, arena: &Arena, trail: &Trail, place: u32) -> Result<(), NoMemory>
-        requires can_trace { CanTrace arena.now trail.now self.old }
-        requires within { place < length trail.now.entries }
-        requires met { is_seen self.old (assigned_at trail.now.entries place).lit.var ≡ true }
+        requires { CanVisit arena.now trail.now self.old place }
         ensures visited { OnOk result (IsVisited arena.now trail.now.entries place self.old self.new) }
+        ensures counted { OnOk result (IsCounted trail.now.entries place self.new) }
         ensures size { length self.new.stamps ≡ length self.old.stamps }
     {
+        self.count_down();
         match reason_at(trail, place) {
             Reason::Decision => self.add_literal(trail.lit_at(place).negated()),
             Reason::Unit(id) => self.add_hint(id),
-            Reason::Clause(r) => self.mark_clause(arena, r),
+            Reason::Clause(r) => self.mark_clause(arena, trail, r),
         }
     }
 
-    /// Follows the reasons of all entries before the top whose variables were met, down to decisions.
+    /// Follows the reasons of all entries before the top whose variables were met, down to decisions. It ends
+    /// at the last such entry, and not at the trail's beginning.
     fn trace(&mut self, arena: &Arena, trail: &Trail, top: u32) -> Result<(), NoMemory>
         requires can_trace { CanTrace arena.now trail.now self.old }
         requires within { top ≤ length trail.now.entries }
+        requires counted { IsCounted trail.now.entries top self.old }
         ensures traced { OnOk result (IsAllTraced arena.now trail.now.entries top self.old self.new) }
         ensures size { length self.new.stamps ≡ length self.old.stamps }
     {
-        for place in (0..top).rev() {
-            if self.is_seen(trail.lit_at(place).var()) {
-                self.visit(arena, trail, place)?;
-            }
+        let mut end = top;
+        while self.count() > 0 {
+            end = self.last_seen(trail, end);
+            self.visit(arena, trail, end)?;
         }
         Ok(())
     }
@@ -436,10 +470,51 @@ impl Walk {
             Reason::Decision => self.add_literal(lit),
             Reason::Unit(id) => self.add_hint(id),
             Reason::Clause(r) => {
-                self.mark_clause(arena, r)?;
+                self.mark_clause(arena, trail, r)?;
                 self.trace(arena, trail, place)
             }
         }
+    }
+
+    /// Gathers the hints of a literal of the root by its reason: a unit, or a clause and the units of its other
+    /// literals.
+    fn find_unit(
+        &mut self,
+        arena: &Arena,
+        trail: &Trail,
+        lit: Lit,
+        place: u32,
+    ) -> Result<(), NoMemory>
+        requires can_show { CanShow arena.now trail.now lit place }
+        requires no_hints { self.old.hints ≡ [] }
+        ensures proved { OnOk result (ShowsLiteral arena.now trail.now.entries lit (reverse self.new.hints)) }
+        ensures size { length self.new.stamps ≡ length self.old.stamps }
+    {
+        match reason_at(trail, place) {
+            Reason::Decision => unreachable!(),
+            Reason::Unit(id) => self.add_hint(id),
+            Reason::Clause(r) => {
+                self.add_hint(arena.id(r))?;
+                self.add_units(arena, trail, r, lit)
+            }
+        }
+    }
+
+    /// Adds the ids of the units that make the literals of a clause false, but for this one.
+    fn add_units(&mut self, arena: &Arena, trail: &Trail, r: ClauseRef, own: Lit) -> Result<(), NoMemory>
+        requires trail { IsTrail trail.now }
+        requires live { IsLive arena.now r }
+        requires own { Contains (entry_at arena.now r).lits own }
+        requires units { (x : Literal) → Contains (entry_at arena.now r).lits x → x ≢ own → IsFalseByUnit trail.now.entries x }
+        ensures resolved { OnOk result (ResolvesOthers trail.now.entries (entry_at arena.now r).lits own self.old.hints self.new.hints) }
+        ensures size { length self.new.stamps ≡ length self.old.stamps }
+    {
+        for lit in arena.lits(r) {
+            if *lit != own {
+                self.add_hint(unit_id(trail, *lit))?;
+            }
+        }
+        Ok(())
     }
 
     fn allocator(&self) -> Global {

@@ -4,7 +4,8 @@
 -- unit_now          on the way back the first literal alone loses its value
 -- searching_unit    a clause of one literal, which becomes a root entry
 -- searching_clause  a longer one is added and attached, and its first literal pushed: the rule of the watches holds after both
-use Rattle.std.proofs.Common.{◌≡◌, ◌≢◌, ℕ, suc, ◌+◌, ◌<◌, ◌≤◌, true, List, [], ◌∷◌, ◌++◌, length, get_or, swap, Contains, refl, sym, ap, ◌∙◌, subst, ⊎_elim, arith}
+use Rattle.std.proofs.Common.{◌≡◌, ◌≢◌, ℕ, suc, ◌+◌, ◌<◌, ◌≤◌, true, List, [], ◌∷◌, ◌++◌, length, get_or, swap, Contains, refl, sym, ap}
+use Rattle.std.proofs.Common.{◌∙◌, subst, ⊎_elim, arith}
 use Rattle.std.proofs.lemmas.List.{get_or-take, length_push, get_or_push, get_or_default}
 use Rattle.std.proofs.lemmas.List.Edits.{swapped_from_swap, length-swap}
 use Rattle.std.proofs.lemmas.List.Elements.{Contains-get_or, All-from_get_or}
@@ -22,7 +23,8 @@ use Rattle.watch_lists.proofs.Orders.{literal_member, clean_swap}
 use Rattle.watch_lists.proofs.Fronts.{at_front, front_push}
 use Rattle.watch_lists.proofs.Attached.{two_cases}
 use Rattle.watch_lists.proofs.Kept.{ready_pushed, ready_added}
-use Rattle.conflict_analysis.specs.Reasons.{IsFalse, IsReason, IsUnit}
+use Rattle.trail_core.specs.TrueAndFalse.{IsFalse}
+use Rattle.conflict_analysis.specs.Reasons.{IsReason, IsUnit}
 use Rattle.conflict_analysis.specs.Answers.{IsLearnt}
 use Rattle.search_bench.specs.Searching.{IsSearching}
 use Rattle.search_bench.specs.Asserting.{IsUnitNow, HasLevelAt, IsSecond}

@@ -9,25 +9,22 @@ use Rattle.cnf_core.specs.Literals.{Literal, negated}
 use Rattle.clause_arena.specs.Entries.{Entries, entry_at, len_of, literal_of}
 use Rattle.trail_core.specs.declared.entry.Assigned.{Assigned}
 use Rattle.trail_core.specs.Trails.{TrailState, assigned_at, IsTrail}
-use Rattle.watch_lists.specs.Clauses.{IsFalsified, HasLiteralBelow}
+use Rattle.watch_lists.specs.Clauses.{IsFalsified}
+use Rattle.trail_core.specs.TrueAndFalse.{HasLiteralBelow, IsFalseBelow}
 use Rattle.watch_lists.specs.Lists.{WatchLists}
 use Rattle.watch_lists.specs.Watching.{IsReady}
 use Rattle.watch_lists.proofs.Orders.{literal_member, place_of}
 use Rattle.watch_lists.proofs.Kept.{settled_below}
-use Rattle.conflict_analysis.specs.Reasons.{IsFalseBelow, IsQuietBelow, HasFalseAt, IsConflict, IsRootConflict}
+use Rattle.conflict_analysis.specs.Reasons.{IsQuietBelow, HasFalseAt, IsConflict, IsRootConflict}
 use Rattle.conflict_analysis.proofs.Walking.{level_le}
 use Rattle.search_bench.specs.Plain.{AreLong}
 use Rattle.search_bench.specs.Searching.{IsSearching}
 
-false_below : (es : List Assigned) (level : ℕ) (x : Literal) → IsFalseBelow es level x → HasLiteralBelow es level (negated x)
-false_below es level x h = record { place = h.place; within = h.within; lit = h.lit; below = h.below }
-
 pub quiet_below : (a : Entries) (w : WatchLists) (t : TrailState) → AreLong a → IsReady a w t → IsTrail t → IsQuietBelow a t.entries t.level
 quiet_below a w t long ready trail =
     let s = settled_below a w t ready trail in record {
-      none_false = λ r live all. s.none_false r (long r live) (λ x member. false_below t.entries t.level x (all x member));
-      none_unit = λ r l live member free others.
-          s.none_unit r l (long r live) member free (λ x there apart. false_below t.entries t.level x (others x there apart));
+      none_false = λ r live all. s.none_false r (long r live) all;
+      none_unit = λ r l live member free others. s.none_unit r l (long r live) member free others;
     }
 
 -- of a false clause's first literals all are false below the present level, or one is at it

@@ -162,13 +162,7 @@ at_clause a es k r reason h = record {
 
 pub at_forced : (a : Entries) (es : List Assigned) (k : ℕ) → IsForced a es k → IsReasonedAt a es k
 at_forced a es k h =
-    let because : IsReason a es k h.clause = record {
-      live = h.live;
-      member = h.member;
-      others = λ x member apart.
-          let f = h.others x member apart in record { place = f.place; before = f.before; lit = f.lit };
-    } in
-    at_clause a es k h.clause h.reason because
+    at_clause a es k h.clause h.reason (record { live = h.live; member = h.member; others = h.others })
 
 -- ---- a reason set
 

@@ -1,12 +1,12 @@
 -- Root entries: what their reasons are.
-use Rattle.std.proofs.Common.{◌≡◌, ◌≢◌, ℕ, ◌<◌, eqb, true, false, length, Contains, refl, sym, ap, ◌∙◌, arith, eq-eqb}
-use Rattle.cnf_core.specs.Literals.{Literal, code_of}
-use Rattle.clause_arena.specs.Entries.{Entries, entry_at}
+use Rattle.std.proofs.Common.{◌≡◌, ℕ, ◌<◌, length, refl, sym, ap, ◌∙◌, arith}
+use Rattle.cnf_core.specs.Literals.{Literal}
+use Rattle.clause_arena.specs.Entries.{Entries}
 use Rattle.trail_core.specs.declared.entry.Assigned.{Assigned}
 use Rattle.trail_core.specs.declared.entry.Reason.{Reason}
 use Rattle.trail_core.specs.declared.entry.Reason.TheVariants.{Decision, Clause as ByClause, Unit as ByUnit}
-use Rattle.trail_core.specs.Trails.{TrailState, assigned_at, IsTrail, HasVariable}
-use Rattle.conflict_analysis.specs.Reasons.{IsReason, IsReasoned, IsUnit}
+use Rattle.trail_core.specs.Trails.{TrailState, assigned_at, IsTrail}
+use Rattle.conflict_analysis.specs.Reasons.{IsReasoned, IsUnit, IsRootLiteral}
 use Rattle.conflict_analysis.proofs.Walking.{level_le}
 
 pub at_root : (t u : TrailState) → IsTrail t → t.level ≡ 0 → u ≡ t → (k : ℕ) → k < length u.entries → (assigned_at u.entries k).level ≡ 0
@@ -16,20 +16,16 @@ at_root t u trail root same k lt =
     ap (λ (y : TrailState). (assigned_at y.entries k).level) same in
     omega (arith, root, level, level_le t k trail within)
 
--- the clause that was read as the reason of a place
-pub implied : (a : Entries) (t : TrailState) (place r v : ℕ) (l : Literal) → IsReasoned a t.entries → place < length t.entries
-    → l ≡ (assigned_at t.entries place).lit → v ≡ l.var
-    → ((k : ℕ) → k < length t.entries → (assigned_at t.entries k).lit.var ≡ v → ByClause r ≡ (assigned_at t.entries k).reason)
-    → IsReason a t.entries place r
-implied a t place r v l h lt read var reason =
-    h.clauses place r lt (sym (reason place lt (ap (λ (y : Literal). y.var) (sym read) ∙ sym var)))
-
--- the other literals of a reason have values
-pub valued_by : (a : Entries) (t : TrailState) (place r : ℕ) (l : Literal) → IsReason a t.entries place r → place < length t.entries
-    → l ≡ (assigned_at t.entries place).lit → (x : Literal) → Contains (entry_at a r).lits x → x ≢ l → HasVariable t.entries x.var
-valued_by a t place r l h lt read x member apart =
-    let f = h.others x member (λ e. apart (e ∙ sym read)) in
-    record { place = f.place; within = omega (arith, f.before); var = ap (λ (y : Literal). y.var) f.lit }
+-- the literal of an entry at the root, where those before it have units
+pub root_literal : (t : TrailState) (place : ℕ) (l : Literal) → IsTrail t → t.level ≡ 0 → place < length t.entries
+    → l ≡ (assigned_at t.entries place).lit → ((k : ℕ) → k < place → IsUnit (assigned_at t.entries k)) → IsRootLiteral t.entries l
+root_literal t place l trail root within read units = record {
+  place = place;
+  within = within;
+  lit = sym read;
+  at_root = at_root t t trail root refl place within;
+  units = units;
+}
 
 unit_of : (es : (k : ℕ) → Assigned) (place : ℕ) (reason : Reason) → (es place).reason ≡ reason
     → ((es place).reason ≡ Decision → 0 < (es place).level) → (es place).level ≡ 0 → ((r : ℕ) → reason ≡ ByClause r → ⊥)
@@ -48,8 +44,3 @@ unit_at a t place v l reason h trail root lt read var is other =
     unit_of (λ k. assigned_at t.entries k) place reason
     (sym (is place lt (ap (λ (y : Literal). y.var) (sym read) ∙ sym var)))
     (h.decisions place lt) (at_root t t trail root refl place lt) other
-
--- literals whose packed forms differ
-pub apart : (x l : Literal) → eqb (code_of x) (code_of l) ≡ false → x ≢ l
-apart x l differ same =
-    let e : eqb (code_of x) (code_of l) ≡ true = eq-eqb (code_of x) (code_of l) (ap code_of same) in cc

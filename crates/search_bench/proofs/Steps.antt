@@ -17,7 +17,8 @@ use Rattle.watch_lists.proofs.Kept.{ready_empty, ready_decided, ready_backtracke
 use Rattle.conflict_analysis.specs.Reasons.{IsUnit}
 use Rattle.search_bench.specs.Plain.{AreLong}
 use Rattle.search_bench.specs.Searching.{HaveUnits, IsSearching}
-use Rattle.search_bench.proofs.Reasons.{KeepsClauses, same_clauses, reasoned_of_each, reasoned_more, reasoned_pushed, reasoned_backtracked, reasoned_rooted, at_decision, at_forced, rooted_is}
+use Rattle.search_bench.proofs.Reasons.{KeepsClauses, same_clauses, reasoned_of_each, reasoned_more, reasoned_pushed, reasoned_backtracked}
+use Rattle.search_bench.proofs.Reasons.{reasoned_rooted, at_decision, at_forced, rooted_is}
 
 pub searching_begun : (vars : ℕ) (a : Entries) (w : WatchLists) → w.vars ≡ vars → AreLong a → IsAttached a w
     → IsSearching vars a w (empty_trail vars)

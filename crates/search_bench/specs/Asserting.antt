@@ -4,7 +4,8 @@ use Rattle.cnf_core.specs.Literals.{Literal, Literals, AreWithin}
 use Rattle.clause_arena.specs.Entries.{no_literal}
 use Rattle.trail_core.specs.declared.entry.Assigned.{Assigned}
 use Rattle.trail_core.specs.Trails.{TrailState, assigned_at, IsFree}
-use Rattle.conflict_analysis.specs.Reasons.{IsFalse, HasFalseAt}
+use Rattle.trail_core.specs.TrueAndFalse.{IsFalse}
+use Rattle.conflict_analysis.specs.Reasons.{HasFalseAt}
 
 -- its first literal has no value, and the others are false, one of them at the present level if that is
 -- above the root

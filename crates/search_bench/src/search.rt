@@ -101,6 +101,13 @@ impl Search {
         self.counts
     }
 
+    /// What is true.
+    pub fn trail(&self) -> &Trail
+        ensures { result.now ≡ self.now.trail }
+    {
+        &self.trail
+    }
+
     /// Where the lines went.
     pub fn judge(&self) -> &Judge {
         &self.judge
@@ -123,13 +130,13 @@ impl Search {
             self.settle_roots()?;
             match self.trail.first_free() {
                 None => return Ok(None),
-                Some(var) => self.decide(var),
+                Some(var) => self.decide(Lit::new(var, false)),
             }
         }
     }
 
     /// Propagates.
-    fn propagate(&mut self) -> Step
+    pub(crate) fn propagate(&mut self) -> Step
         requires { Searches self.old }
         ensures searches { Searches self.new }
         ensures trail { IsTrail self.new.trail }
@@ -144,18 +151,19 @@ impl Search {
         step
     }
 
-    /// Opens a level, and makes a variable false there.
-    fn decide(&mut self, var: u32)
+    /// Opens a level, and makes a literal without value true there.
+    pub(crate) fn decide(&mut self, lit: Lit)
         requires searches { Searches self.old }
         requires trail { IsTrail self.old.trail }
         requires quiet { self.old.trail.gone ≡ length self.old.trail.entries }
         requires units { HaveUnits self.old.trail.entries }
-        requires free { IsFirstFree self.old.trail var }
+        requires within { IsWithin self.old.trail.vars lit }
+        requires free { IsFree self.old.trail.entries lit.var }
         ensures searches { Searches self.new }
         ensures more { length self.new.trail.entries ≡ length self.old.trail.entries + 1 }
         ensures vars { self.new.trail.vars ≡ self.old.trail.vars }
     {
-        self.trail.decide(Lit::new(var, false));
+        self.trail.decide(lit);
         self.counts.decisions = self.counts.decisions.saturating_add(1);
     }
 
@@ -173,7 +181,7 @@ impl Search {
 
     /// Where all is propagated at the root, proves each root literal as a unit clause, so that hints name
     /// it by one id. Above the root that was done before.
-    fn settle_roots(&mut self) -> Result<(), NoMemory>
+    pub(crate) fn settle_roots(&mut self) -> Result<(), NoMemory>
         requires searches { Searches self.old }
         requires quiet { self.old.trail.gone ≡ length self.old.trail.entries }
         ensures searches { OnOk result (Searches self.new) }
@@ -200,6 +208,7 @@ impl Search {
         requires trail { IsTrail self.old.trail }
         requires root { self.old.trail.level ≡ 0 }
         requires within { place < length self.old.trail.entries }
+        requires units { (k : ℕ) → k < place → IsUnit (assigned_at self.old.trail.entries k) }
         ensures searches { OnOk result (Searches self.new) }
         ensures unit { OnOk result (IsUnit (assigned_at self.new.trail.entries place)) }
         ensures others { (k : ℕ) → IsUnit (assigned_at self.old.trail.entries k) → IsUnit (assigned_at self.new.trail.entries k) }
@@ -209,8 +218,8 @@ impl Search {
         ensures vars { self.new.trail.vars ≡ self.old.trail.vars }
     {
         let lit = self.trail.lit_at(place);
-        if let Reason::Clause(r) = self.trail.reason_of(lit.var()) {
-            let hints = self.unit_hints(lit, r)?;
+        if let Reason::Clause(_reason) = self.trail.reason_of(lit.var()) {
+            let hints = self.analyser.unit_hints(&self.arena, &self.trail, lit)?;
             let clause = Clause {
                 lits: vec![in self.alloc; lit]?,
             };
@@ -221,28 +230,8 @@ impl Search {
         Ok(())
     }
 
-    /// What proves a literal as a unit clause: the units that make the others of its reason false, and the
-    /// reason.
-    fn unit_hints(&self, lit: Lit, r: ClauseRef) -> Result<Ids, NoMemory>
-        requires live { IsLive self.now.arena r }
-        requires valued { (x : Literal) → Contains (entry_at self.now.arena r).lits x → x ≢ lit
-            → HasVariable self.now.trail.entries x.var }
-    {
-        let mut ids = Vec::new(self.alloc);
-        for other in self.arena.lits(r) {
-            if *other == lit {
-                continue;
-            }
-            if let Reason::Unit(id) = self.trail.reason_of(other.var()) {
-                ids.push(id)?;
-            }
-        }
-        ids.push(self.arena.id(r))?;
-        Ok(Ids { ids })
-    }
-
     /// Learns a clause from a conflict above the root, goes back, and makes its first literal true.
-    fn learn(&mut self, conflict: ClauseRef) -> Result<(), NoMemory>
+    pub(crate) fn learn(&mut self, conflict: ClauseRef) -> Result<(), NoMemory>
         requires searches { Searches self.old }
         requires trail { IsTrail self.old.trail }
         requires conflict { IsFalsified self.old.arena self.old.trail.entries conflict }

@@ -1,8 +1,18 @@
+ghost use Rattle.std.specs.Prelude.{All, IfOk, IsTrue, OnOk, Some};
+ghost use Rattle.cnf_core.specs.Literals.{IsWithin};
+ghost use Rattle.trail_core.specs.Trails.{IsFree};
+ghost use Rattle.search_bench.specs.Plain.{IsPlain};
+ghost use Rattle.search_bench.specs.States.{Searches};
+
 use crate::Judge;
 use crate::search::{Answer, Search};
 use crate::threes::random_formula;
-use cnf_core::{Formula, Lit};
+use cnf_core::{Clause, Formula, Lit, NoMemory};
+use std::alloc::Global;
+use std::process::Abort;
 use std::test::Fail;
+use trail_core::Trail;
+use watch_lists::Step;
 
 /// Whether the literal is true where the bits are the values of the variables.
 fn is_true(bits: u32, lit: &Lit) -> bool {
@@ -18,6 +28,63 @@ fn has_model(formula: &Formula, vars: u32) -> bool {
             .iter()
             .all(|clause| clause.lits.iter().any(|lit| is_true(bits, lit)))
     })
+}
+
+/// The clauses `-1 -2 3` and `-1 -2 -3`.
+fn two_clauses(alloc: Global) -> Result<Formula, NoMemory>
+    ensures { IfOk result (λ F. All IsPlain F.clauses) }
+{
+    let mut formula = Formula::new(alloc, 3);
+    for positive in [true, false] {
+        let lits = vec![in alloc; Lit::new(1, false), Lit::new(2, false), Lit::new(3, positive)]?;
+        if !formula.room(&lits) {
+            return Err(NoMemory);
+        }
+        formula.push(Clause { lits })?;
+    }
+    Ok(formula)
+}
+
+fn is_free(trail: &Trail, lit: Lit) -> bool
+    ensures { IsTrue result → IsWithin trail.now.vars lit × IsFree trail.now.entries lit.var }
+{
+    lit.var() <= trail.vars() && trail.value(lit).is_none()
+}
+
+/// Propagates what is left, where no clause is false, and decides the literal.
+fn decide(rt: &impl Abort, search: &mut Search, lit: Lit) -> Result<(), Fail>
+    requires { Searches search.old }
+    ensures { OnOk result (Searches search.new) }
+{
+    match search.propagate() {
+        Step::Quiet => {}
+        _ => return Err(Fail::from("a conflict")),
+    }
+    search.settle_roots()?;
+    assert!(rt; is_free(search.trail(), lit));
+    search.decide(lit);
+    Ok(())
+}
+
+#[test]
+fn the_checker_takes_what_a_conflict_below_two_decisions_teaches(
+    rt: HostRuntime,
+) -> Result<(), Fail> {
+    let formula = two_clauses(rt.alloc())?;
+    let judge = Judge::new(rt.alloc(), &formula)?;
+    let mut search = Search::new(rt.alloc(), &formula, judge)?;
+    for var in 1..3 {
+        decide(&rt, &mut search, Lit::new(var, true))?;
+    }
+    let Step::Conflict(conflict) = search.propagate() else {
+        return Err(Fail::from("no conflict"));
+    };
+    assert!(rt; search.trail().level() > 0);
+    search.learn(conflict)?;
+    assert_eq!(rt; search.trail().values(), [1i8, -1, 0].as_slice());
+    assert_eq!(rt; search.trail().level(), 1);
+    assert_eq!(rt; (search.counts().learnt, search.judge().taken(), search.judge().refused()), (2, 1, 0));
+    Ok(())
 }
 
 #[test]

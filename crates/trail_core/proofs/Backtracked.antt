@@ -1,12 +1,13 @@
 -- The entries of the levels above one are taken away.
-use Rattle.std.proofs.Common.{◌≡◌, ℕ, ℤ, pos, ◌+◌, ◌-◌, ◌<◌, ◌≤◌, Bool, false, min, List, length, get_or, set, take, refl, sym, ap, ◌∙◌, subst, ⊎_elim, arith}
+use Rattle.std.proofs.Common.{◌≡◌, ℕ, ℤ, pos, ◌+◌, ◌-◌, ◌<◌, ◌≤◌, Bool, false, min, List, length, get_or, set, take, refl, sym, ap, ◌∙◌}
+use Rattle.std.proofs.Common.{subst, ⊎_elim, arith}
 use Rattle.std.proofs.lemmas.List.{get_or-take, length-take-le, take-take, take_all}
 use Rattle.std.proofs.lemmas.Bool.{cases_lt}
 use Rattle.cnf_core.specs.Literals.{Literal, code_of, IsWithin}
 use Rattle.trail_core.proofs.Lookups.{code_within}
 use Rattle.trail_core.specs.declared.entry.Assigned.{Assigned}
 use Rattle.trail_core.specs.Trails.{no_entry, assigned_at, IsLeveled, TrailState, IsBacktracked}
-use Rattle.trail_core.specs.Tables.{AreTables, AreStarts, IsHeld, state_of}
+use Rattle.trail_core.specs.Steps.Tables.{AreTables, AreStarts, IsHeld, state_of}
 use Rattle.trail_core.proofs.Pushed.{level_at_most}
 use Rattle.trail_core.proofs.Popped.{EndsAt, tables_less}
 
@@ -133,7 +134,8 @@ cut_is n es starts gone level start fs h s within at fits front low end =
     let first : (assigned_at es start).level ≡ level + 1 = ap (λ k. (assigned_at es k).level) at.is ∙ s.level level lt in
     record {
       entries = entries;
-      leveled = subst (IsLeveled fs) (sym count) (subst (λ gs. IsLeveled gs level) (sym entries) (leveled_cut es starts level start h s at));
+      leveled = subst (IsLeveled fs) (sym count)
+          (subst (λ gs. IsLeveled gs level) (sym entries) (leveled_cut es starts level start h s at));
       started = subst (λ gs. AreStarts gs (take level starts)) (sym entries) (starts_cut es starts level start h s at);
       within = omega (arith, size);
       backtracked = record {

@@ -1,5 +1,6 @@
 -- Packed forms of literals.
-use Rattle.std.proofs.Common.{◌≡◌, ℕ, ◌+◌, ◌*◌, ◌≤◌, ℤ, Bool, true, false, w8, refl, ap, ◌∙◌, arith}
+use Rattle.std.proofs.Common.{◌≡◌, ◌≢◌, ℕ, ◌+◌, ◌*◌, ◌≤◌, ℤ, Bool, true, false, not, eqb, w8, refl, sym, ap, ◌∙◌, arith}
+use Rattle.std.proofs.lemmas.Bool.{eqb-true, eq-eqb, not-false, false≢true}
 use Rattle.cnf_core.specs.Literals.{Literal, code_of}
 use Rattle.std.specs.Int.{cast_signed, cast_unsigned}
 use Rattle.trail_core.specs.Trails.{sign_of}
@@ -32,3 +33,18 @@ written v false = refl
 
 pub sign_written : (x : ℤ) (l : Literal) → x ≡ sign_of l → cast_signed w8 (cast_unsigned w8 x) ≡ sign_of l
 sign_written x l is = ap (λ y. cast_signed w8 (cast_unsigned w8 y)) is ∙ written l.var l.positive
+
+-- ---- what a comparison says
+
+pub same_if : (k l : Literal) (b : Bool) → b ≡ eqb (code_of k) (code_of l) → b ≡ true → k ≡ l
+same_if k l b is equal = same_code k l (eqb-true (code_of k) (code_of l) (sym is ∙ equal))
+
+pub same_unless : (k l : Literal) (b : Bool) → b ≡ not (eqb (code_of k) (code_of l)) → b ≡ false → k ≡ l
+same_unless k l b is equal = same_code k l (eqb-true (code_of k) (code_of l) (not-false (eqb (code_of k) (code_of l)) (sym is ∙ equal)))
+
+pub other_if : (k l : Literal) (b : Bool) → b ≡ eqb (code_of k) (code_of l) → b ≡ false → k ≢ l
+other_if k l b is apart same = false≢true (sym apart ∙ is ∙ eq-eqb (code_of k) (code_of l) (ap code_of same))
+
+pub other_unless : (k l : Literal) (b : Bool) → b ≡ not (eqb (code_of k) (code_of l)) → b ≡ true → k ≢ l
+other_unless k l b is apart same =
+    false≢true (sym (ap not (eq-eqb (code_of k) (code_of l) (ap code_of same))) ∙ sym is ∙ apart)

@@ -1,13 +1,15 @@
 -- What the tables of a trail say.
-use Rattle.std.proofs.Common.{◌≡◌, ◌≢◌, ℕ, zero, suc, ℤ, ◌+◌, ◌-◌, ◌*◌, ◌<◌, ◌≤◌, Bool, true, false, List, length, get_or, set, pos, refl, sym, ap, ◌∙◌, subst, ⊎_elim, arith}
+use Rattle.std.proofs.Common.{◌≡◌, ◌≢◌, ℕ, zero, suc, ℤ, ◌+◌, ◌-◌, ◌*◌, ◌<◌, ◌≤◌, Bool, true, false, List, length, get_or, set, pos, refl}
+use Rattle.std.proofs.Common.{sym, ap, ◌∙◌, subst, ⊎_elim, arith}
 use Rattle.std.proofs.lemmas.List.{get_or_read, length-set, get_or-set_same, get_or-set_other}
 use Rattle.std.specs.List.{sum_by}
 use Rattle.std.proofs.lemmas.List.Sums.{get_or-le-sum_by}
 use Rattle.std.proofs.lemmas.Bool.{cases_lt, cases_eq}
 use Rattle.cnf_core.specs.Literals.{Literal, code_of, IsWithin}
 use Rattle.trail_core.specs.declared.entry.Assigned.{Assigned}
-use Rattle.trail_core.specs.Trails.{no_entry, sign_of, assigned_at, HasLiteral, HasVariable, IsFree, IsLeveled, TrailState, IsTrail, IsFirstFree}
-use Rattle.trail_core.specs.Tables.{blank, IsPlaced, AreTables, IsHeld, state_of}
+use Rattle.trail_core.specs.Trails.{no_entry, sign_of, assigned_at, HasLiteral, HasVariable, IsFree, IsLeveled, TrailState, IsTrail}
+use Rattle.trail_core.specs.Trails.{IsFirstFree}
+use Rattle.trail_core.specs.Steps.Tables.{blank, IsPlaced, AreTables, IsHeld, state_of}
 use Rattle.trail_core.proofs.Literals.{code_le}
 
 pub code_within : (n : ℕ) (l : Literal) → IsWithin n l → code_of l < 2 * n + 2

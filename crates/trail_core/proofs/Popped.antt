@@ -1,12 +1,13 @@
 -- A trail without its last entry still fits its tables.
-use Rattle.std.proofs.Common.{◌≡◌, ◌≢◌, ℕ, ℤ, pos, ◌+◌, ◌-◌, ◌<◌, ◌≤◌, Bool, false, min, List, length, get_or, set, take, sym, ap, ◌∙◌, subst, ⊎_elim, arith}
+use Rattle.std.proofs.Common.{◌≡◌, ◌≢◌, ℕ, ℤ, pos, ◌+◌, ◌-◌, ◌<◌, ◌≤◌, Bool, false, min, List, length, get_or, set, take, sym, ap, ◌∙◌}
+use Rattle.std.proofs.Common.{subst, ⊎_elim, arith}
 use Rattle.std.proofs.lemmas.List.{length-set, get_or-set_same, get_or-set_other, get_or-take, length-take-le, get_or_read}
 use Rattle.std.proofs.lemmas.List.Sums.{sum_by-set}
 use Rattle.std.proofs.lemmas.Bool.{cases_lt, cases_eq, true≢false}
 use Rattle.cnf_core.specs.Literals.{Literal, code_of, IsWithin}
 use Rattle.trail_core.specs.declared.entry.Assigned.{Assigned}
 use Rattle.trail_core.specs.Trails.{no_entry, assigned_at, IsFree, AreValues, sign_of}
-use Rattle.trail_core.specs.Tables.{blank, IsPlaced, AreTables}
+use Rattle.trail_core.specs.Steps.Tables.{blank, IsPlaced, AreTables}
 use Rattle.trail_core.proofs.Literals.{same_code}
 use Rattle.trail_core.proofs.Lookups.{code_within}
 use Rattle.trail_core.proofs.Pushed.{blank_of_some}

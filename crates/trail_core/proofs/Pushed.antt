@@ -1,5 +1,6 @@
 -- A trail with one entry more still fits its tables.
-use Rattle.std.proofs.Common.{◌≡◌, ◌≢◌, ℕ, zero, suc, ℤ, pos, ◌+◌, ◌-◌, ◌<◌, ◌≤◌, Bool, true, false, nat_lt, if◌then◌else◌, List, [], ◌∷◌, ◌++◌, length, get_or, set, refl, sym, ap, ◌∙◌, subst, ⊎_elim, arith}
+use Rattle.std.proofs.Common.{◌≡◌, ◌≢◌, ℕ, zero, suc, ℤ, pos, ◌+◌, ◌-◌, ◌<◌, ◌≤◌, Bool, true, false, nat_lt, if◌then◌else◌, List, [], ◌∷◌}
+use Rattle.std.proofs.Common.{◌++◌, length, get_or, set, refl, sym, ap, ◌∙◌, subst, ⊎_elim, arith}
 use Rattle.std.specs.List.{sum_by}
 use Rattle.std.proofs.lemmas.List.{length-set, get_or-set_same, get_or-set_other, get_or_append_left, get_or_push, length_push}
 use Rattle.std.proofs.lemmas.List.Sums.{sum_by-set, get_or-le-sum_by}
@@ -7,7 +8,7 @@ use Rattle.std.proofs.lemmas.Bool.{cases_lt, cases_eq}
 use Rattle.cnf_core.specs.Literals.{code_of, IsWithin}
 use Rattle.trail_core.specs.declared.entry.Assigned.{Assigned}
 use Rattle.trail_core.specs.Trails.{no_entry, assigned_at, IsFree, IsLeveled, AreValues, sign_of}
-use Rattle.trail_core.specs.Tables.{blank, IsPlaced, AreTables, AreStarts, IsHeld, opened}
+use Rattle.trail_core.specs.Steps.Tables.{blank, IsPlaced, AreTables, AreStarts, IsHeld, opened}
 use Rattle.trail_core.proofs.Literals.{same_code}
 use Rattle.trail_core.proofs.Lookups.{code_within, blank_of_free}
 
@@ -96,7 +97,11 @@ placed_more n es ps ts a m p w free is =
           (get_or-set_same ts c true false in_ts);
       only_true = λ l read. ⊎_elim
           (λ (at : code_of l ≡ c).
-          record { place = length es; within = omega (arith, size); lit = ap (λ e. e.lit) (at_new es a (length es) refl) ∙ sym (same_code l a.lit at) })
+          record {
+            place = length es;
+            within = omega (arith, size);
+            lit = ap (λ e. e.lit) (at_new es a (length es) refl) ∙ sym (same_code l a.lit at);
+          })
           (λ (ne : code_of l ≢ c).
           let h = p.only_true l (sym (get_or-set_other ts c (code_of l) true false ne) ∙ read) in
           record { place = h.place; within = omega (arith, size, h.within); lit = ap (λ e. e.lit) (at_old es a h.place h.within) ∙ h.lit })
@@ -158,7 +163,14 @@ leveled_more es a level h low high =
           (λ (last : length es ≤ k).
           ⊎_elim
           (λ (before : j < length es).
-          omega (arith, old j before, new k (omega arith), h.rises j (length es - 1) (omega arith) (omega arith), h.top (length es - 1) (omega arith), low))
+          omega (
+            arith,
+            old j before,
+            new k (omega arith),
+            h.rises j (length es - 1) (omega arith) (omega arith),
+            h.top (length es - 1) (omega arith),
+            low,
+          ))
           (λ (same : length es ≤ j). omega (arith, new j (omega arith), new k (omega arith)))
           (cases_lt j (length es)))
           (cases_lt k (length es));

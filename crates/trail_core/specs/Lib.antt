@@ -1,2 +1,3 @@
 pub mod Trails
-pub mod Tables
+pub mod TrueAndFalse
+pub mod Steps

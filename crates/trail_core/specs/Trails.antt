@@ -1,5 +1,6 @@
 -- A trail: which literals were made true, in which order, at which level, and why.
-use Rattle.std.specs.Prelude.{◌≡◌, ℕ, ◌+◌, ◌-◌, ◌<◌, ◌≤◌, ◌^◌, ℤ, pos, negsuc, min, List, [], ◌∷◌, ◌++◌, length, take, slice_index_or, slice_set, false, if◌then◌else◌}
+use Rattle.std.specs.Prelude.{◌≡◌, ℕ, ◌+◌, ◌-◌, ◌<◌, ◌≤◌, ◌^◌, ℤ, pos, negsuc, min, List, [], ◌∷◌, ◌++◌, length, take, slice_index_or}
+use Rattle.std.specs.Prelude.{slice_set, false, if◌then◌else◌}
 use Rattle.cnf_core.specs.Literals.{Literal, IsWithin}
 use Rattle.trail_core.specs.declared.entry.Assigned.{Assigned}
 use Rattle.trail_core.specs.declared.entry.Reason.{Reason}

@@ -44,6 +44,20 @@ fn assign(rt: &impl Abort, trail: &mut Trail, number: i32, reason: Reason) -> Re
 }
 
 #[test]
+fn a_root_literal_gets_a_unit_as_its_reason(rt: HostRuntime) -> Result<(), Fail> {
+    let mut trail = Trail::new(rt.alloc(), 3)?;
+    let lit = Lit::new(2, false);
+    let because = Reason::Clause(ClauseRef::at(0));
+    trail.push(lit, because);
+    trail.push(Lit::new(3, true), because);
+    trail.root(2, 41);
+    assert_eq!(rt; trail.reason_of(2), Reason::Unit(41));
+    assert_eq!(rt; trail.reason_of(3), because);
+    assert_eq!(rt; (trail.level_of(2), trail.place_of(2)), (0, 0));
+    Ok(())
+}
+
+#[test]
 fn going_back_frees_the_variables_of_higher_levels(rt: HostRuntime) -> Result<(), Fail> {
     let mut trail = Trail::new(rt.alloc(), 4)?;
     let because = Reason::Clause(ClauseRef::at(7));

@@ -1,7 +1,9 @@
-ghost use Rattle.std.specs.Prelude.{◌≡◌, ◌↔◌, ◌+◌, ◌<◌, ◌≤◌, ◌-◌, ◌^◌, ℕ, pos, false, length, slice_index, slice_set, if◌then◌else◌, IfOk, IfSome, IfNone, MatchOption, IsTrue};
+ghost use Rattle.std.specs.Prelude.{◌≡◌, ◌↔◌, ◌+◌, ◌<◌, ◌≤◌, ◌-◌, ◌^◌, ℕ, pos, false, length, slice_index, slice_set, if◌then◌else◌, IfOk};
+ghost use Rattle.std.specs.Prelude.{IfSome, IfNone, MatchOption, IsTrue};
 ghost use Rattle.cnf_core.specs.Literals.{IsWithin, negated, code_of};
-ghost use Rattle.trail_core.specs.Trails.{assigned_at, HasLiteral, HasVariable, IsFree, IsTrail, empty_trail, with_entry, with_root, IsBacktracked, AreValues, sign_of, IsFirstFree};
-ghost use Rattle.trail_core.specs.Tables.{opened};
+ghost use Rattle.trail_core.specs.Trails.{assigned_at, HasLiteral, HasVariable, IsFree, IsTrail, empty_trail, with_entry, with_root};
+ghost use Rattle.trail_core.specs.Trails.{IsBacktracked, AreValues, sign_of, IsFirstFree};
+ghost use Rattle.trail_core.specs.Steps.Tables.{opened};
 ghost use Rattle.std.specs.Vec.{vec_len, vec_capacity};
 ghost use Rattle.trail_core.specs.declared.entry.Reason.TheVariants.{Decision};
 
@@ -33,7 +35,7 @@ pub struct Trail {
 
 impl Model for Trail {
     ghost use Rattle.trail_core.specs.Trails.{TrailState};
-    ghost use Rattle.trail_core.specs.Tables.{IsHeld, state_of};
+    ghost use Rattle.trail_core.specs.Steps.Tables.{IsHeld, state_of};
     ghost use Rattle.std.specs.Vec.{vec_capacity};
 
     ghost Value = { TrailState };

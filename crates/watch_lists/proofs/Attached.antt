@@ -1,6 +1,8 @@
 -- Changes of the lists of watches.
-use Rattle.std.proofs.Common.{◌≡◌, ◌≢◌, ℕ, zero, suc, ◌+◌, ◌-◌, ◌*◌, ◌<◌, ◌≤◌, ◌⊎◌, ◌==◌, true, Contains, List, [], ◌∷◌, ◌++◌, length, take, get_or, set, replicate, swap_remove, refl, sym, ap, ◌∙◌, subst, ⊎_elim, arith}
-use Rattle.std.proofs.lemmas.List.{length-set, get_or-set_same, get_or-set_other, set-get_or, get_or-take, length-take-le, take-append-le, take_all, length_push, get_or_push, get_or_append_left, length-replicate, get_or-replicate, get_or_past}
+use Rattle.std.proofs.Common.{◌≡◌, ◌≢◌, ℕ, zero, suc, ◌+◌, ◌-◌, ◌*◌, ◌<◌, ◌≤◌, ◌⊎◌, ◌==◌, true, Contains, List, [], ◌∷◌, ◌++◌, length, take}
+use Rattle.std.proofs.Common.{get_or, set, replicate, swap_remove, refl, sym, ap, ◌∙◌, subst, ⊎_elim, arith}
+use Rattle.std.proofs.lemmas.List.{length-set, get_or-set_same, get_or-set_other, set-get_or, get_or-take, length-take-le, take-append-le}
+use Rattle.std.proofs.lemmas.List.{take_all, length_push, get_or_push, get_or_append_left, length-replicate, get_or-replicate, get_or_past}
 use Rattle.std.proofs.lemmas.Bool.{cases_eq, cases_lt, eqb-true}
 use Rattle.cnf_core.specs.Literals.{Literal, code_of, IsWithin}
 use Rattle.clause_arena.specs.Entries.{Entry, Entries, entry_at, len_of, literal_of, with_swap}
@@ -8,8 +10,11 @@ use Rattle.trail_core.proofs.Literals.{same_code}
 use Rattle.trail_core.proofs.Lookups.{code_within}
 use Rattle.watch_lists.specs.Watchers.{Watcher}
 use Rattle.watch_lists.specs.Clauses.{IsLong, IsClean, IsReordered}
-use Rattle.watch_lists.specs.Lists.{WatchLists, IsSized, no_watch, empty_lists, watcher_of, with_clause, list_of, watch_at, with_list, with_watch, with_watch_at, without_watch, IsSound, HasWatchFrom, IsAttached}
-use Rattle.watch_lists.proofs.Orders.{place_of, reordered_swap, reordered_sym, long_after, member_after, literal_member, clean_swap, at_unswapped}
+use Rattle.watch_lists.specs.Lists.{WatchLists, IsSized, no_watch, empty_lists, watcher_of, with_clause, list_of, watch_at, with_list}
+use Rattle.watch_lists.specs.Lists.{with_watch, IsSound, HasWatchFrom, IsAttached}
+use Rattle.watch_lists.specs.Steps.Lists.{with_watch_at, without_watch}
+use Rattle.watch_lists.proofs.Orders.{place_of, reordered_swap, reordered_sym, long_after, member_after, literal_member, clean_swap}
+use Rattle.watch_lists.proofs.Orders.{at_unswapped}
 
 -- ---- one list
 

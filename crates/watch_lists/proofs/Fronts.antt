@@ -1,13 +1,13 @@
 -- A trail and a longer one that begins with it, and what literals it makes true.
-use Rattle.std.proofs.Common.{◌≡◌, ℕ, ◌<◌, ◌≤◌, Bool, true, false, List, [], ◌∷◌, ◌++◌, length, take, Contains, refl, sym, ap, ◌∙◌, subst, arith}
+use Rattle.std.proofs.Common.{◌≡◌, ℕ, ◌<◌, ◌≤◌, Bool, true, false, List, [], ◌∷◌, ◌++◌, length, take, Contains, refl, sym, ap, ◌∙◌, subst}
+use Rattle.std.proofs.Common.{arith}
 use Rattle.std.proofs.lemmas.List.{get_or-take, take-append-le, take_all, take-take, length_push, get_or_push}
 use Rattle.cnf_core.specs.Literals.{Literal, negated}
 use Rattle.clause_arena.specs.Entries.{Entries, entry_at}
 use Rattle.trail_core.specs.declared.entry.Assigned.{Assigned}
 use Rattle.trail_core.specs.Trails.{no_entry, assigned_at, HasLiteral, IsFree}
-use Rattle.watch_lists.specs.Clauses.{HasLiteralBefore, HasLiteralBy, HasTrueBy, IsForced}
-use Rattle.watch_lists.specs.Propagating.{HasTrue}
-use Rattle.watch_lists.specs.Clauses.{IsReordered}
+use Rattle.trail_core.specs.TrueAndFalse.{HasLiteralBefore, HasLiteralBy}
+use Rattle.watch_lists.specs.Clauses.{HasTrueBy, IsForced, HasTrue, IsReordered}
 use Rattle.watch_lists.proofs.Orders.{live_after, member_after, reordered_sym}
 
 -- one trail begins with the other

@@ -11,18 +11,22 @@
 -- ready_short, ready_added, ready_first  after a clause was added, and attached if it has two literals
 -- watches_allow                          the rule for an added clause whose first literal is true
 -- settled_below                          nothing was left to propagate before the present level
-use Rattle.std.proofs.Common.{◌≡◌, ◌≢◌, ℕ, ◌+◌, ◌<◌, ◌≤◌, ◌⊎◌, Bool, true, false, List, [], ◌∷◌, length, get_or, Contains, refl, sym, ap, ◌∙◌, subst, inl, inr, ⊎_elim, arith}
-use Rattle.std.proofs.lemmas.List.{length_push, get_or_push, get_or_append_left, get_or-take, length-set, get_or-set_same, get_or-set_other, get_or_default}
+use Rattle.std.proofs.Common.{◌≡◌, ◌≢◌, ℕ, ◌+◌, ◌<◌, ◌≤◌, ◌⊎◌, Bool, true, false, List, [], ◌∷◌, length, get_or, Contains, refl, sym, ap}
+use Rattle.std.proofs.Common.{◌∙◌, subst, inl, inr, ⊎_elim, arith}
+use Rattle.std.proofs.lemmas.List.{length_push, get_or_push, get_or_append_left, get_or-take, length-set, get_or-set_same, get_or-set_other}
+use Rattle.std.proofs.lemmas.List.{get_or_default}
 use Rattle.std.proofs.lemmas.List.Elements.{Contains-get_or}
 use Rattle.cnf_core.proofs.Lists.{kept_of_Contains-filter}
 use Rattle.std.proofs.lemmas.Bool.{cases_eq, cases_lt, false≢true}
 use Rattle.cnf_core.specs.Literals.{Literal, negated}
-use Rattle.clause_arena.specs.Entries.{Entry, Entries, no_entry as no_clause, no_literal, entry_at, literal_of, is_live, IsLive, with_entry as with_new, without_clause, live_entries}
+use Rattle.clause_arena.specs.Entries.{Entry, Entries, no_entry as no_clause, no_literal, entry_at, literal_of, is_live, IsLive}
+use Rattle.clause_arena.specs.Entries.{with_entry as with_new, without_clause, live_entries}
 use Rattle.trail_core.specs.declared.entry.Assigned.{Assigned}
 use Rattle.trail_core.specs.declared.entry.Reason.{Reason}
 use Rattle.trail_core.specs.declared.entry.Reason.TheVariants.{Decision}
 use Rattle.trail_core.specs.Trails.{no_entry, assigned_at, IsTrail, TrailState, empty_trail, with_entry, with_root, IsBacktracked}
-use Rattle.watch_lists.specs.Clauses.{IsLong, IsClean, AreClean, HasLiteralBy, HasLiteralBelow, HasTrueBy, IsSettledBelow}
+use Rattle.watch_lists.specs.Clauses.{IsLong, IsClean, AreClean, HasTrueBy, IsSettledBelow}
+use Rattle.trail_core.specs.TrueAndFalse.{HasLiteralBy, HasLiteralBelow}
 use Rattle.watch_lists.specs.Lists.{WatchLists, empty_lists, with_clause, HasWatchFrom, list_of, watch_at, IsAttached}
 use Rattle.watch_lists.specs.Watching.{IsWatched, IsReady}
 use Rattle.watch_lists.proofs.Orders.{literal_member}

@@ -5,9 +5,8 @@ use Rattle.cnf_core.proofs.Lists.{list_any_of_member}
 use Rattle.clause_arena.specs.Entries.{Entries, entry_at, len_of, literal_of}
 use Rattle.trail_core.specs.Trails.{assigned_at, TrailState}
 use Rattle.watch_lists.specs.Laws.{QuietTrailIsModel, IsComplete, Agrees}
-use Rattle.watch_lists.specs.Clauses.{IsLong, AreClean}
+use Rattle.watch_lists.specs.Clauses.{IsLong, AreClean, HasTrue}
 use Rattle.watch_lists.specs.Watching.{IsWatched}
-use Rattle.watch_lists.specs.Propagating.{HasTrue}
 use Rattle.watch_lists.proofs.Orders.{literal_member}
 use Rattle.watch_lists.proofs.Fronts.{literal_cases}
 

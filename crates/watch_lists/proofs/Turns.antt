@@ -9,7 +9,8 @@ use Rattle.watch_lists.specs.declared.step.Step.TheVariants.{Quiet, Conflict, Me
 use Rattle.watch_lists.specs.Clauses.{IsReordered}
 use Rattle.watch_lists.specs.Lists.{WatchLists}
 use Rattle.watch_lists.specs.Watching.{IsReady}
-use Rattle.watch_lists.specs.Propagating.{IsPropagated, IsAdvanced, StepSays, VisitSays}
+use Rattle.watch_lists.specs.Propagating.{IsPropagated, StepSays}
+use Rattle.watch_lists.specs.Steps.Visiting.{IsAdvanced, VisitSays}
 use Rattle.watch_lists.proofs.Orders.{reordered_trans}
 use Rattle.watch_lists.proofs.Fronts.{IsFront, at_front}
 use Rattle.watch_lists.proofs.Visited.{propagated_trans, ready_next}

@@ -1,6 +1,8 @@
 -- The lists as the fields hold them.
-use Rattle.std.proofs.Common.{◌≡◌, ◌≢◌, ℕ, ◌+◌, ◌*◌, ◌<◌, ◌≤◌, List, [], ◌∷◌, ◌++◌, ◌-◌, Vec, length, map, replicate, swap_remove, take, drop, get_or, set, Result, Ok, Err, OnErr, sym, ap, ◌∙◌, ⊎_elim, arith}
-use Rattle.std.proofs.lemmas.List.{get_or-map, map-set, set-get_or, length-map, map-append, get_or-set_same, get_or-set_other, length-replicate, get_or-replicate, get_or_default, ext_get_or}
+use Rattle.std.proofs.Common.{◌≡◌, ◌≢◌, ℕ, ◌+◌, ◌*◌, ◌<◌, ◌≤◌, List, [], ◌∷◌, ◌++◌, ◌-◌, Vec, length, map, replicate, swap_remove, take}
+use Rattle.std.proofs.Common.{drop, get_or, set, Result, Ok, Err, OnErr, sym, ap, ◌∙◌, ⊎_elim, arith}
+use Rattle.std.proofs.lemmas.List.{get_or-map, map-set, set-get_or, length-map, map-append, get_or-set_same, get_or-set_other}
+use Rattle.std.proofs.lemmas.List.{length-replicate, get_or-replicate, get_or_default, ext_get_or}
 use Rattle.std.proofs.lemmas.Grind.{replicate_next}
 use Rattle.std.proofs.lemmas.Bool.{cases_eq}
 use Rattle.std.proofs.Math.Seq.{take-append_seam}

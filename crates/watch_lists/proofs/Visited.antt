@@ -1,5 +1,6 @@
 -- A list of watches is gone through: what each step of it keeps.
-use Rattle.std.proofs.Common.{◌≡◌, ◌≢◌, ℕ, ◌+◌, ◌-◌, ◌<◌, ◌≤◌, ◌⊎◌, Bool, true, false, not, eqb, List, [], ◌∷◌, ◌++◌, length, get_or, swap_remove, Contains, refl, sym, ap, ◌∙◌, subst, inl, inr, ⊎_elim, arith}
+use Rattle.std.proofs.Common.{◌≡◌, ◌≢◌, ℕ, ◌+◌, ◌-◌, ◌<◌, ◌≤◌, ◌⊎◌, Bool, true, false, not, eqb, List, [], ◌∷◌, ◌++◌, length, get_or}
+use Rattle.std.proofs.Common.{swap_remove, Contains, refl, sym, ap, ◌∙◌, subst, inl, inr, ⊎_elim, arith}
 use Rattle.std.proofs.lemmas.List.{length_push, get_or_push, length-set}
 use Rattle.std.proofs.lemmas.Bool.{cases_eq, cases_lt, eqb-true, eq-eqb, not-false, false≢true}
 use Rattle.cnf_core.specs.Literals.{Literal, negated, code_of, IsWithin}
@@ -9,15 +10,21 @@ use Rattle.trail_core.specs.declared.entry.Assigned.{Assigned}
 use Rattle.trail_core.specs.declared.entry.Reason.TheVariants.{Clause}
 use Rattle.trail_core.specs.Trails.{no_entry, assigned_at, HasLiteral, IsFree, IsLeveled, IsTrail, TrailState, with_entry}
 use Rattle.watch_lists.specs.Watchers.{Watcher}
-use Rattle.watch_lists.specs.Clauses.{IsLong, IsClean, IsReordered, HasLiteralBefore, HasTrueBy, IsFalsified}
-use Rattle.watch_lists.specs.Lists.{WatchLists, no_watch, list_of, watch_at, with_watch, with_watch_at, without_watch, IsSound, HasWatchFrom, IsAttached}
+use Rattle.watch_lists.specs.Clauses.{IsLong, IsClean, IsReordered, HasTrueBy, IsFalsified, HasTrue}
+use Rattle.trail_core.specs.TrueAndFalse.{HasLiteralBefore}
+use Rattle.watch_lists.specs.Lists.{WatchLists, no_watch, list_of, watch_at, with_watch, IsSound, HasWatchFrom, IsAttached}
+use Rattle.watch_lists.specs.Steps.Lists.{with_watch_at, without_watch}
 use Rattle.watch_lists.specs.Watching.{IsWatched, IsReady}
-use Rattle.watch_lists.specs.Propagating.{HasTrue, IsOther, AreFalseBelow, IsPending, IsVisiting, IsPropagated, IsAdvanced, FateSays, ForceSays}
+use Rattle.watch_lists.specs.Steps.Visiting.{IsOther, AreFalseBelow, IsPending, IsVisiting, IsAdvanced, FateSays, ForceSays}
+use Rattle.watch_lists.specs.Propagating.{IsPropagated}
 use Rattle.watch_lists.specs.declared.step.Fate.{Fate}
 use Rattle.watch_lists.specs.declared.step.Fate.TheVariants.{Keep, Move, Falsified, NoRoom}
-use Rattle.watch_lists.proofs.Orders.{place_of, reordered_refl, reordered_trans, reordered_sym, reordered_swap, long_after, member_after, literal_member, literal_first, literal_second, literal_other, at_unswapped}
-use Rattle.watch_lists.proofs.Fronts.{IsFront, front_refl, front_push, front_trans, at_front, literal_kept, literal_pushed, true_kept, true_by_kept, forced_kept, free_of_open, negated_twice}
-use Rattle.watch_lists.proofs.Attached.{two_cases, literal_eq, has_set, has_removed, has_pushed, length-removed, list_set, list_unset, attached_set, attached_add, attached_remove, attached_swap}
+use Rattle.watch_lists.proofs.Orders.{place_of, reordered_refl, reordered_trans, reordered_sym, reordered_swap, long_after, member_after}
+use Rattle.watch_lists.proofs.Orders.{literal_member, literal_first, literal_second, literal_other, at_unswapped}
+use Rattle.watch_lists.proofs.Fronts.{IsFront, front_refl, front_push, front_trans, at_front, literal_kept, literal_pushed, true_kept}
+use Rattle.watch_lists.proofs.Fronts.{true_by_kept, forced_kept, free_of_open, negated_twice}
+use Rattle.watch_lists.proofs.Attached.{two_cases, literal_eq, has_set, has_removed, has_pushed, length-removed, list_set, list_unset}
+use Rattle.watch_lists.proofs.Attached.{attached_set, attached_add, attached_remove, attached_swap}
 
 -- ---- what was pushed
 
@@ -593,21 +600,6 @@ pub turned_same : (a b : Entries) (w : WatchLists) (t : TrailState) (f : Literal
 turned_same a b w t f start r v second same =
     let turned : IsTurned a a w t f start r = record { visiting = v; second = second; advanced = advanced_refl a t } in
     subst (λ (z : Entries). IsTurned a z w t f start r) (sym same) turned
-
--- ---- what a comparison says
-
-pub same_if : (k l : Literal) (b : Bool) → b ≡ eqb (code_of k) (code_of l) → b ≡ true → k ≡ l
-same_if k l b is equal = same_code k l (eqb-true (code_of k) (code_of l) (sym is ∙ equal))
-
-pub same_unless : (k l : Literal) (b : Bool) → b ≡ not (eqb (code_of k) (code_of l)) → b ≡ false → k ≡ l
-same_unless k l b is equal = same_code k l (eqb-true (code_of k) (code_of l) (not-false (eqb (code_of k) (code_of l)) (sym is ∙ equal)))
-
-pub other_if : (k l : Literal) (b : Bool) → b ≡ eqb (code_of k) (code_of l) → b ≡ false → k ≢ l
-other_if k l b is apart same = false≢true (sym apart ∙ is ∙ eq-eqb (code_of k) (code_of l) (ap code_of same))
-
-pub other_unless : (k l : Literal) (b : Bool) → b ≡ not (eqb (code_of k) (code_of l)) → b ≡ true → k ≢ l
-other_unless k l b is apart same =
-    false≢true (sym (ap not (eq-eqb (code_of k) (code_of l) (ap code_of same))) ∙ sym is ∙ apart)
 
 -- the watch is out of date
 pub outdated : (a : Entries) (w v : WatchLists) (t : TrailState) (f : Literal) (start r : ℕ) → IsVisiting a w t f start

@@ -1,10 +1,11 @@
 -- What a clause of an arena is under a trail.
 use Rattle.std.specs.Prelude.{◌≡◌, ◌≢◌, ℕ, ◌<◌, ◌≤◌, List, length, slice_index_or, Contains, IsPermutation}
-use Rattle.cnf_core.specs.Literals.{Literal, Literals, negated, IsWithin}
+use Rattle.cnf_core.specs.Literals.{Literal, Literals, IsWithin}
 use Rattle.clause_arena.specs.Entries.{Entry, Entries, no_literal, entry_at, len_of, IsLive}
 use Rattle.trail_core.specs.declared.entry.Assigned.{Assigned}
 use Rattle.trail_core.specs.declared.entry.Reason.TheVariants.{Clause}
 use Rattle.trail_core.specs.Trails.{assigned_at, HasLiteral}
+use Rattle.trail_core.specs.TrueAndFalse.{HasLiteralBy, IsFalse, IsFalseBefore, IsFalseBelow, IsFreeBelow}
 
 -- a live clause of two or more literals
 pub record IsLong (a : Entries) (r : ℕ) : Type 0 where
@@ -33,27 +34,13 @@ pub record IsReordered (old new : Entries) : Type 0 where
   pub count : length new ≡ length old
   pub entries : (r : ℕ) → r < length old → IsReorderedEntry (entry_at old r) (entry_at new r)
 
--- one of the first k entries makes the literal true
-pub record HasLiteralBefore (es : List Assigned) (k : ℕ) (l : Literal) : Type 0 where
-  pub place : ℕ
-  pub before : place < k
-  pub lit : (assigned_at es place).lit ≡ l
+-- some literal of the clause is true
+pub record HasTrue (a : Entries) (es : List Assigned) (r : ℕ) : Type 0 where
+  pub lit : Literal
+  pub member : Contains (entry_at a r).lits lit
+  pub made : HasLiteral es lit
 
--- an entry at this level or a lower one makes the literal true
-pub record HasLiteralBy (es : List Assigned) (limit : ℕ) (l : Literal) : Type 0 where
-  pub place : ℕ
-  pub within : place < length es
-  pub lit : (assigned_at es place).lit ≡ l
-  pub level : (assigned_at es place).level ≤ limit
-
--- an entry of a lower level makes the literal true
-pub record HasLiteralBelow (es : List Assigned) (bound : ℕ) (l : Literal) : Type 0 where
-  pub place : ℕ
-  pub within : place < length es
-  pub lit : (assigned_at es place).lit ≡ l
-  pub below : (assigned_at es place).level < bound
-
--- some literal of the clause is true at this level or a lower one
+-- one is true by an entry of this level or a lower one
 pub record HasTrueBy (a : Entries) (es : List Assigned) (r limit : ℕ) : Type 0 where
   pub lit : Literal
   pub member : Contains (entry_at a r).lits lit
@@ -62,7 +49,7 @@ pub record HasTrueBy (a : Entries) (es : List Assigned) (r limit : ℕ) : Type 0
 -- a live clause whose literals are all false
 pub record IsFalsified (a : Entries) (es : List Assigned) (r : ℕ) : Type 0 where
   pub live : IsLive a r
-  pub all_false : (l : Literal) → Contains (entry_at a r).lits l → HasLiteral es (negated l)
+  pub all_false : (l : Literal) → Contains (entry_at a r).lits l → IsFalse es l
 
 -- the entry of this place had no value before it, and is the one literal of a live clause whose other
 -- literals were all false by then; that clause is its reason
@@ -73,13 +60,13 @@ pub record IsForced (a : Entries) (es : List Assigned) (k : ℕ) : Type 0 where
   pub member : Contains (entry_at a clause).lits (assigned_at es k).lit
   pub free : (j : ℕ) → j < k → (assigned_at es j).lit.var ≢ (assigned_at es k).lit.var
   pub others : (l : Literal) → Contains (entry_at a clause).lits l → l ≢ (assigned_at es k).lit
-      → HasLiteralBefore es k (negated l)
+      → IsFalseBefore es k l
 
 -- without the entries of a level and of those above it, no live clause of two or more literals is false,
 -- and none has one literal without value and all others false
 pub record IsSettledBelow (a : Entries) (es : List Assigned) (level : ℕ) : Type 0 where
   pub none_false : (r : ℕ) → IsLong a r
-      → ((l : Literal) → Contains (entry_at a r).lits l → HasLiteralBelow es level (negated l)) → ⊥
+      → ((l : Literal) → Contains (entry_at a r).lits l → IsFalseBelow es level l) → ⊥
   pub none_unit : (r : ℕ) (u : Literal) → IsLong a r → Contains (entry_at a r).lits u
-      → ((k : ℕ) → k < length es → (assigned_at es k).lit.var ≡ u.var → level ≤ (assigned_at es k).level)
-      → ((l : Literal) → Contains (entry_at a r).lits l → l ≢ u → HasLiteralBelow es level (negated l)) → ⊥
+      → IsFreeBelow es level u.var
+      → ((l : Literal) → Contains (entry_at a r).lits l → l ≢ u → IsFalseBelow es level l) → ⊥

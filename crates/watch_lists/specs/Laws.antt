@@ -3,10 +3,9 @@ use Rattle.std.specs.Prelude.{◌≡◌, ℕ, ◌<◌, ◌≤◌, ◌⊎◌, tru
 use Rattle.cnf_core.specs.Literals.{Assignment, is_true, clause_true}
 use Rattle.clause_arena.specs.Entries.{Entries, entry_at}
 use Rattle.trail_core.specs.Trails.{TrailState, assigned_at, HasVariable, IsTrail, IsBacktracked}
-use Rattle.watch_lists.specs.Clauses.{IsLong, AreClean, IsSettledBelow}
+use Rattle.watch_lists.specs.Clauses.{IsLong, AreClean, IsSettledBelow, HasTrue}
 use Rattle.watch_lists.specs.Lists.{WatchLists}
 use Rattle.watch_lists.specs.Watching.{IsWatched, IsReady}
-use Rattle.watch_lists.specs.Propagating.{HasTrue}
 
 -- the assignment makes each entry's literal true
 abbrev pub Agrees : Assignment → TrailState → Type 0

@@ -4,3 +4,4 @@ pub mod Lists
 pub mod Watching
 pub mod Propagating
 pub mod Laws
+pub mod Steps

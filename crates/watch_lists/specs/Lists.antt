@@ -1,5 +1,6 @@
 -- The lists of watches: one for each literal, with the clauses that watch it.
-use Rattle.std.specs.Prelude.{◌≡◌, ◌≢◌, ℕ, zero, suc, ◌+◌, ◌*◌, ◌<◌, ◌≤◌, ◌==◌, ◌&&◌, nat_le, if◌then◌else◌, true, false, List, [], ◌∷◌, ◌++◌, length, replicate, slice_index_or, slice_set, swap_remove, Contains}
+use Rattle.std.specs.Prelude.{◌≡◌, ◌≢◌, ℕ, zero, suc, ◌+◌, ◌*◌, ◌<◌, ◌≤◌, ◌==◌, ◌&&◌, nat_le, if◌then◌else◌, true, false, List, [], ◌∷◌}
+use Rattle.std.specs.Prelude.{◌++◌, length, replicate, slice_index_or, slice_set, Contains}
 use Rattle.cnf_core.specs.Literals.{Literal, code_of}
 use Rattle.clause_arena.specs.Entries.{Entries, no_literal, entry_at, len_of, literal_of}
 use Rattle.watch_lists.specs.Watchers.{Watcher}
@@ -37,14 +38,6 @@ with_list w l xs = record w { lists = slice_set w.lists (code_of l) xs }
 -- with one watch more in a list
 abbrev pub with_watch : WatchLists → Literal → Watcher → WatchLists
 with_watch w l x = with_list w l (list_of w l ++ x ∷ [])
-
--- with another watch at a place of a list
-abbrev pub with_watch_at : WatchLists → Literal → ℕ → Watcher → WatchLists
-with_watch_at w l k x = with_list w l (slice_set (list_of w l) k x)
-
--- with the watch of a place taken out, and the list's last one in its place
-abbrev pub without_watch : WatchLists → Literal → ℕ → WatchLists
-without_watch w l k = with_list w l (swap_remove (list_of w l) k no_watch)
 
 -- the watch of a clause with this blocker
 abbrev pub watcher_of : Entries → ℕ → Literal → Watcher

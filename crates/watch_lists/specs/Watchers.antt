@@ -1,6 +1,5 @@
--- A watch as contracts see it, and its packed form.
-use Rattle.std.specs.Prelude.{◌≡◌, ℕ, ◌+◌, ◌^◌, ◌<◌, ◌%◌, Bool, nat_le, if◌then◌else◌}
-use Rattle.std.proofs.Common.{arith}
+-- A watch as contracts see it.
+use Rattle.std.specs.Prelude.{ℕ, Bool}
 use Rattle.cnf_core.specs.Literals.{Literal}
 
 -- a clause that watches a literal, another of its literals, and whether it has just two
@@ -8,15 +7,3 @@ pub record Watcher : Type 0 where
   pub clause : ℕ
   pub blocker : Literal
   pub binary : Bool
-
--- the packed form of clause and mark: the clause, and 2^31 more where it has just two literals
-abbrev pub watcher_code : Watcher → ℕ
-watcher_code x = x.clause + (if x.binary then 2 ^ 31 else 0)
-
--- the watch of a packed form
-abbrev pub watcher_of_code : ℕ → Literal → Watcher
-watcher_of_code code blocker = record { clause = code % 2 ^ 31; blocker = blocker; binary = nat_le (2 ^ 31) code }
-
--- the packed form gives the watch, and the watch the packed form
-pub watcher_code-of_code : (code : ℕ) (blocker : Literal) → code < 2 ^ 32 → watcher_code (watcher_of_code code blocker) ≡ code
-watcher_code-of_code code blocker fits = grind arith

@@ -201,6 +201,7 @@ fn a_conflict_names_a_false_clause(rt: HostRuntime) -> Result<(), Fail> {
     attach_two(&rt, &mut watches, &mut arena, &trail, -1, 2)?;
     let second = attach_two(&rt, &mut watches, &mut arena, &trail, -2, 3)?;
     let third = attach_two(&rt, &mut watches, &mut arena, &trail, -2, -3)?;
+    shared(&watches);
     let step = decide(&rt, &mut watches, &mut arena, &mut trail, 1)?;
     assert!(rt; step == Step::Conflict(second) || step == Step::Conflict(third));
     Ok(())

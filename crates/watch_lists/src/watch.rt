@@ -22,7 +22,8 @@ pub struct Watch {
 impl Model for Watch {
     ghost use Rattle.std.specs.Prelude.{ℕ, ◌<◌, ◌^◌};
     ghost use Rattle.std.proofs.Common.{ap};
-    ghost use Rattle.watch_lists.specs.Watchers.{Watcher, watcher_of_code, watcher_code, watcher_code-of_code};
+    ghost use Rattle.watch_lists.specs.Watchers.{Watcher};
+    ghost use Rattle.watch_lists.specs.Steps.Packed.{watcher_of_code, watcher_code, watcher_code-of_code};
 
     ghost Value = { Watcher };
 

@@ -3,9 +3,11 @@ ghost use Rattle.cnf_core.specs.Literals.{IsWithin, negated};
 ghost use Rattle.clause_arena.specs.Entries.{entry_at, len_of, literal_of};
 ghost use Rattle.trail_core.specs.Trails.{HasLiteral};
 ghost use Rattle.watch_lists.specs.Clauses.{IsLong, IsClean, AreClean, IsReordered};
-ghost use Rattle.watch_lists.specs.Lists.{IsSized, list_of, watch_at, empty_lists, with_watch, with_watch_at, without_watch, with_clause, with_clauses, IsAttached};
+ghost use Rattle.watch_lists.specs.Lists.{IsSized, list_of, watch_at, empty_lists, with_watch, with_clause, with_clauses, IsAttached};
+ghost use Rattle.watch_lists.specs.Steps.Lists.{with_watch_at, without_watch};
 ghost use Rattle.watch_lists.specs.Watching.{IsReady};
-ghost use Rattle.watch_lists.specs.Propagating.{IsOther, AreFalseBelow, IsPropagated, StepSays, IsAdvanced, IsVisiting, FateSays, ForceSays, VisitSays};
+ghost use Rattle.watch_lists.specs.Steps.Visiting.{IsOther, AreFalseBelow, IsAdvanced, IsVisiting, FateSays, ForceSays, VisitSays};
+ghost use Rattle.watch_lists.specs.Propagating.{IsPropagated, StepSays};
 
 use crate::Step;
 use crate::step::Fate;

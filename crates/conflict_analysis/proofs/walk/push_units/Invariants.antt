@@ -3,7 +3,7 @@ use Rattle.cnf_core.specs.Literals.{Literals}
 use Rattle.clause_arena.specs.Entries.{Entries}
 use Rattle.lrat_lines.specs.Propagation.{Known}
 use Rattle.conflict_analysis.specs.Members.{IsMapOf}
-use Rattle.conflict_analysis.specs.Resolvents.{Derives}
+use Rattle.conflict_analysis.specs.Steps.Resolvents.{Derives}
 use Rattle.conflict_analysis.proofs.walk.push_units.Given as goal
 
 abbrev pub invariant-loop-lit : goal.invariant-loop-lit

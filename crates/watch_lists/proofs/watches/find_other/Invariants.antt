@@ -1,5 +1,5 @@
 -- The places that were passed have false literals.
-use Rattle.watch_lists.specs.Propagating.{AreFalseBelow}
+use Rattle.watch_lists.specs.Steps.Visiting.{AreFalseBelow}
 use Rattle.watch_lists.proofs.watches.find_other.Given as goal
 
 abbrev pub invariant-loop-k : goal.invariant-loop-k

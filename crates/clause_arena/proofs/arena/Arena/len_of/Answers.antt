@@ -3,10 +3,12 @@ use Rattle.clause_arena.proofs.Laid.{starts_here, bounds_of}
 use Rattle.clause_arena.proofs.arena.Arena.len_of.Goals as goal
 
 pub start-from-requires : goal.start-from-requires
-start-from-requires c = omega (arith, starts_here _ _ _ _ _ (record { laid = c.self.invariant; is = c.self.view_is }) c.requires.present, c.place.ensures)
+start-from-requires c =
+    omega (arith, starts_here _ _ _ _ _ (record { laid = c.self.invariant; is = c.self.view_is }) c.requires.present, c.place.ensures)
 
 pub start-end-requires : goal.start-end-requires
-start-end-requires c = omega (arith, starts_here _ _ _ _ _ (record { laid = c.self.invariant; is = c.self.view_is }) c.requires.present, c.place-2.ensures)
+start-end-requires c =
+    omega (arith, starts_here _ _ _ _ _ (record { laid = c.self.invariant; is = c.self.view_is }) c.requires.present, c.place-2.ensures)
 
 pub overflow_sub-result : goal.overflow_sub-result
 overflow_sub-result c =

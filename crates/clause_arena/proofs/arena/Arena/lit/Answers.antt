@@ -3,7 +3,8 @@ use Rattle.clause_arena.proofs.Laid.{starts_here, bounds_of, literal_here, read_
 use Rattle.clause_arena.proofs.arena.Arena.lit.Goals as goal
 
 pub start-from-requires : goal.start-from-requires
-start-from-requires c = omega (arith, starts_here _ _ _ _ _ (record { laid = c.self.invariant; is = c.self.view_is }) c.requires.live.present, c.place.ensures)
+start-from-requires c =
+    omega (arith, starts_here _ _ _ _ _ (record { laid = c.self.invariant; is = c.self.view_is }) c.requires.live.present, c.place.ensures)
 
 pub overflow_add-from : goal.overflow_add-from
 overflow_add-from c =

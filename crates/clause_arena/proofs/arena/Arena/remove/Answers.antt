@@ -1,7 +1,7 @@
 use Rattle.std.proofs.Common.{◌≡◌, false, arith, subst, get_or, set, ◌∙◌, ap}
 use Rattle.clause_arena.proofs.Laid.{length_is}
 use Rattle.clause_arena.proofs.Changed.{entries_without}
-use Rattle.clause_arena.specs.Layout.{laid_entries}
+use Rattle.clause_arena.specs.Steps.Layout.{laid_entries}
 use Rattle.clause_arena.proofs.arena.Arena.remove.Goals as goal
 
 pub index_mut-requires : goal.index_mut-requires

@@ -1,12 +1,13 @@
 use Rattle.std.proofs.Common.{◌≡◌, ◌+◌, get_or, arith, ap, ◌∙◌}
 use Rattle.clause_arena.proofs.Laid.{starts_here, bounds_of, literal_here}
 use Rattle.std.specs.List.{swap}
-use Rattle.clause_arena.specs.Layout.{laid_entries}
+use Rattle.clause_arena.specs.Steps.Layout.{laid_entries}
 use Rattle.clause_arena.proofs.Changed.{entries_swapped}
 use Rattle.clause_arena.proofs.arena.Arena.swap.Goals as goal
 
 pub start-from-requires : goal.start-from-requires
-start-from-requires c = omega (arith, starts_here _ _ _ _ _ (record { laid = c.self.invariant; is = c.self.view_is }) c.requires.live.present, c.place.ensures)
+start-from-requires c =
+    omega (arith, starts_here _ _ _ _ _ (record { laid = c.self.invariant; is = c.self.view_is }) c.requires.live.present, c.place.ensures)
 
 pub overflow_add-from : goal.overflow_add-from
 overflow_add-from c =
@@ -45,4 +46,5 @@ returns c =
     let m = c.self.inside.marks.items in
     ap (λ ls. laid_entries ls s m) c.swap.ensures.items
     ∙ ap (λ n. laid_entries (swap l (n + c.args.i) (n + c.args.j)) s m) from
-    ∙ entries_swapped l s m _ c.args.r c.args.i c.args.j (record { laid = c.self.invariant; is = c.self.view_is }) c.requires.live.present c.requires.first c.requires.second
+    ∙ entries_swapped l s m _ c.args.r c.args.i c.args.j (record { laid = c.self.invariant; is = c.self.view_is })
+    c.requires.live.present c.requires.first c.requires.second

@@ -1,7 +1,7 @@
 use Rattle.std.proofs.Common.{◌+◌, ◌≤◌, ◌<◌, ◌∙◌, sym, ap, subst, length, get_or, arith}
 use Rattle.std.proofs.lemmas.Result.{on_ok_weaker}
 use Rattle.cnf_core.specs.Literals.{Literals}
-use Rattle.conflict_analysis.specs.Walks.{WalkView, is_seen}
+use Rattle.conflict_analysis.specs.Steps.Walks.{WalkView, is_seen}
 use Rattle.conflict_analysis.proofs.Growing.{element_is_member}
 use Rattle.conflict_analysis.proofs.Walking.{IsAdding, may_take, adding_taken, adding_past, added}
 use Rattle.clause_arena.specs.Entries.{entry_at}

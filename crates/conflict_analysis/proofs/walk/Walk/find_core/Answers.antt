@@ -1,13 +1,20 @@
 use Rattle.std.proofs.Common.{◌∷◌, [], ◌∙◌, sym}
 use Rattle.std.proofs.lemmas.Result.{on_ok_weaker}
 use Rattle.cnf_core.specs.Literals.{negated}
-use Rattle.conflict_analysis.proofs.Traces.{may_mark_reason, core_of_decision, core_of_unit, core_of_clause, traced_reason}
+use Rattle.conflict_analysis.proofs.Marking.{may_mark_core, core_marked}
+use Rattle.conflict_analysis.proofs.Cores.{core_of_decision, core_of_unit, core_of_clause, traced_reason}
 use Rattle.conflict_analysis.proofs.walk.Walk.find_core.Goals as goal
 
 pub mark_clause-requires : goal.mark_clause-requires
 mark_clause-requires c =
-    may_mark_reason c.args.arena.now c.args.trail.now c.args.self.now c.args.place c.in-Clause.r c.requires.can_trace
-    c.requires.falsified.within (sym c.reason_at.ensures ∙ c.in-Clause.is)
+    may_mark_core c.args.arena.now c.args.trail.now c.args.lit c.args.self.now c.args.place c.in-Clause.r c.requires.can_trace
+    c.requires.begun c.requires.falsified.within c.requires.falsified.lit (sym c.reason_at.ensures ∙ c.in-Clause.is)
+
+pub trace-requires-clause-counted : goal.trace-requires-clause-counted
+trace-requires-clause-counted c =
+    core_marked c.args.arena.now c.args.trail.now c.args.lit c.args.self.now c.mark_clause.new.self c.args.place c.in-Clause.r
+    c.requires.can_trace c.requires.begun c.requires.falsified.within c.requires.falsified.lit
+    (sym c.reason_at.ensures ∙ c.in-Clause.is) c.in_ok-mark_clause-in-Clause.ensures.marked
 
 pub returns-in-Decision-clause-core : goal.returns-in-Decision-clause-core
 returns-in-Decision-clause-core c =

@@ -1,6 +1,6 @@
 use Rattle.std.proofs.Common.{◌∙◌, sym, ap, subst, arith}
 use Rattle.cnf_core.specs.Literals.{Literal, negated}
-use Rattle.conflict_analysis.specs.Learning.{IsFound}
+use Rattle.conflict_analysis.specs.Steps.Learning.{IsFound}
 use Rattle.conflict_analysis.proofs.Walking.{seen_of_walked, found, may_resolve}
 use Rattle.conflict_analysis.proofs.walk.Walk.find_first.Goals as goal
 

@@ -1,5 +1,5 @@
 use Rattle.std.proofs.Common.{◌≡◌, length}
-use Rattle.conflict_analysis.specs.Learning.{IsWalked}
+use Rattle.conflict_analysis.specs.Steps.Learning.{IsWalked}
 use Rattle.conflict_analysis.proofs.walk.Walk.find_first.Given as goal
 
 abbrev pub invariant-loop-self : goal.invariant-loop-self

@@ -1,6 +1,6 @@
 use Rattle.std.proofs.Common.{◌∙◌, sym, ap, refl}
 use Rattle.cnf_core.specs.Literals.{Literal}
-use Rattle.conflict_analysis.specs.Walks.{is_seen}
+use Rattle.conflict_analysis.specs.Steps.Walks.{is_seen}
 use Rattle.conflict_analysis.proofs.Walking.{looking_lower}
 use Rattle.conflict_analysis.proofs.walk.Walk.last_seen.Goals as goal
 

@@ -1,4 +1,4 @@
-use Rattle.conflict_analysis.specs.Walks.{is_seen}
+use Rattle.conflict_analysis.specs.Steps.Walks.{is_seen}
 use Rattle.conflict_analysis.proofs.Walking.{IsLooking}
 use Rattle.conflict_analysis.proofs.walk.Walk.last_seen.Given as goal
 

@@ -1,6 +1,6 @@
 use Rattle.std.proofs.Common.{◌∙◌, ℕ, sym, subst, arith}
 use Rattle.std.proofs.lemmas.Result.{IfOk-weaker}
-use Rattle.conflict_analysis.specs.Learning.{IsWalked}
+use Rattle.conflict_analysis.specs.Steps.Learning.{IsWalked}
 use Rattle.conflict_analysis.proofs.Walking.{may_add_conflict, walked_first}
 use Rattle.conflict_analysis.proofs.Outcomes.{may_learn, learnt_is}
 use Rattle.conflict_analysis.proofs.walk.Walk.learn.Goals as goal

@@ -1,9 +1,9 @@
 use Rattle.std.proofs.Common.{List, ℕ, length, Contains, sym, subst}
 use Rattle.cnf_core.specs.Literals.{Literals}
 use Rattle.conflict_analysis.specs.Answers.{IsHighest}
-use Rattle.conflict_analysis.specs.Walks.{WalkView}
-use Rattle.conflict_analysis.specs.Resolvents.{Derives}
-use Rattle.conflict_analysis.specs.Learning.{ResolvesRoots, CanLearn, IsDerived}
+use Rattle.conflict_analysis.specs.Steps.Walks.{WalkView}
+use Rattle.conflict_analysis.specs.Steps.Resolvents.{Derives}
+use Rattle.conflict_analysis.specs.Steps.Learning.{ResolvesRoots, CanLearn, IsDerived}
 use Rattle.conflict_analysis.proofs.walk.Walk.learnt.Goals as goal
 
 pub push_units-requires-clause-units : goal.push_units-requires-clause-units

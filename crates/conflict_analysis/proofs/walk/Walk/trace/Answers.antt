@@ -1,36 +1,39 @@
-use Rattle.std.proofs.Common.{◌≡◌, ◌+◌, ◌-◌, ◌∙◌, ℕ, sym, ap, subst, arith}
-use Rattle.cnf_core.specs.Literals.{Literal}
-use Rattle.conflict_analysis.specs.Walks.{is_seen}
-use Rattle.conflict_analysis.specs.Tracing.{IsTraced}
-use Rattle.conflict_analysis.proofs.Traces.{traced_past}
+use Rattle.std.proofs.Common.{◌∙◌, sym, arith}
+use Rattle.conflict_analysis.proofs.Marking.{some_left, counted_down_to}
+use Rattle.conflict_analysis.proofs.Traces.{traced_on, traced_to_end}
 use Rattle.conflict_analysis.proofs.walk.Walk.trace.Goals as goal
 
-pub loop-place-preserved-in-Continue-1 : goal.loop-place-preserved-in-Continue-1
-loop-place-preserved-in-Continue-1 c =
-    let p = c.loop-place.place in
-    let one : p ≡ (p - 1) + 1 = omega (arith, c.loop-place-test.true) in
-    record {
-      size = c.in_ok-visit.ensures.size ∙ c.loop-place.invariant.size;
-      traced = λ bound own h. c.in_ok-visit.ensures.visited c.args.top bound own c.requires.within
-          (subst (λ (n : ℕ). IsTraced c.args.arena.now c.args.trail.now.entries c.args.top bound own n c.loop-place.self) one
-          (c.loop-place.invariant.traced bound own h));
+pub last_seen-end-requires-clause-some : goal.last_seen-end-requires-clause-some
+last_seen-end-requires-clause-some c =
+    some_left c.args.trail.now.entries c.loop-self.end c.loop-self.self c.loop-self.invariant.counted
+    (omega (arith, c.loop-self-test.true, c.count.ensures))
+
+pub visit-requires : goal.visit-requires
+visit-requires c =
+    let last = c.last_seen-end.ensures in record {
+      can_trace = record {
+        trail = c.requires.can_trace.trail;
+        size = c.loop-self.invariant.size ∙ c.requires.can_trace.size;
+        reasons = c.requires.can_trace.reasons;
+      };
+      within = omega (arith, last.before, c.loop-self.invariant.within, c.requires.within);
+      met = last.met;
+      counted = counted_down_to c.args.trail.now.entries c.loop-self.end c.last_seen-end.result c.loop-self.self
+          c.loop-self.invariant.counted last;
     }
 
-pub loop-place-preserved : goal.loop-place-preserved
-loop-place-preserved c =
-    let p = c.loop-place.place in
-    let one : p ≡ (p - 1) + 1 = omega (arith, c.loop-place-test.true) in
-    record {
-      size = c.loop-place.invariant.size;
-      traced = λ bound own h. traced_past c.args.arena.now c.args.trail.now.entries c.args.top bound own (p - 1) c.loop-place.self
-          (ap (is_seen c.loop-place.self) (sym (c.var.ensures.value ∙ ap (λ (l : Literal). l.var) c.lit_at.ensures))
-          ∙ sym c.is_seen.ensures ∙ c.if-is_seen.false)
-          (subst (λ (n : ℕ). IsTraced c.args.arena.now c.args.trail.now.entries c.args.top bound own n c.loop-place.self) one
-          (c.loop-place.invariant.traced bound own h));
+pub loop-self-preserved : goal.loop-self-preserved
+loop-self-preserved c =
+    let last = c.last_seen-end.ensures in record {
+      size = c.in_ok-visit.ensures.size ∙ c.loop-self.invariant.size;
+      within = omega (arith, last.before, c.loop-self.invariant.within);
+      counted = c.in_ok-visit.ensures.counted;
+      traced = λ bound own h.
+          traced_on c.args.arena.now c.args.trail.now c.args.top bound own c.loop-self.end c.last_seen-end.result c.loop-self.self
+          c.visit.new.self c.requires.within last c.in_ok-visit.ensures.visited (c.loop-self.invariant.traced bound own h);
     }
 
 pub returns-clause-traced : goal.returns-clause-traced
 returns-clause-traced c = λ bound own h.
-    (let none : c.loop-place.place ≡ 0 = omega (arith, c.loop-place-test.false) in
-    subst (λ (n : ℕ). IsTraced c.args.arena.now c.args.trail.now.entries c.args.top bound own n c.loop-place.self) none
-    (c.loop-place.invariant.traced bound own h))
+    traced_to_end c.args.arena.now c.args.trail.now.entries c.args.top bound own c.loop-self.end c.loop-self.self
+    c.loop-self.invariant.counted (omega (arith, c.loop-self-test.false, c.count.ensures)) (c.loop-self.invariant.traced bound own h)

@@ -8,5 +8,5 @@ pub returns-clause-searches : goal.returns-clause-searches
 returns-clause-searches c =
     let s = c.args.self.now in
     subst (λ (t : TrailState). IsSearching s.analyser s.arena s.watches t) (sym c.decide.ensures)
-    (searching_decided s.analyser s.arena s.watches s.trail c.new.result c.requires.searches c.requires.trail
+    (searching_decided s.analyser s.arena s.watches s.trail c.args.lit c.requires.searches c.requires.trail
     c.requires.quiet c.requires.units)

@@ -1,23 +1,14 @@
 use Rattle.std.proofs.Common.{◌≡◌, ◌<◌, length, refl, sym, ap, ◌∙◌, arith}
 use Rattle.cnf_core.specs.Literals.{Literal}
 use Rattle.trail_core.specs.Trails.{TrailState, assigned_at, with_root}
-use Rattle.search_bench.proofs.Roots.{at_root, implied, valued_by, unit_at}
+use Rattle.search_bench.proofs.Roots.{at_root, root_literal, unit_at}
 use Rattle.search_bench.proofs.Steps.{searching_rooted, searching_same}
 use Rattle.search_bench.proofs.search.Search.settle_root.Goals as goal
 
-pub unit_hints-requires-clause-live : goal.unit_hints-requires-clause-live
-unit_hints-requires-clause-live c =
-    let s = c.args.self.now in
-    let h = implied s.arena s.trail c.args.place c.in-Clause.r c.var.result c.lit_at-lit.result c.requires.searches.reasoned
-    c.requires.within c.lit_at-lit.ensures c.var.ensures.value c.in-Clause.ensures in
-    h.live
-
-pub unit_hints-requires-clause-valued : goal.unit_hints-requires-clause-valued
-unit_hints-requires-clause-valued c =
-    let s = c.args.self.now in
-    let h = implied s.arena s.trail c.args.place c.in-Clause.r c.var.result c.lit_at-lit.result c.requires.searches.reasoned
-    c.requires.within c.lit_at-lit.ensures c.var.ensures.value c.in-Clause.ensures in
-    valued_by s.arena s.trail c.args.place c.in-Clause.r c.lit_at-lit.result h c.requires.within c.lit_at-lit.ensures
+pub unit_hints-requires-clause-root : goal.unit_hints-requires-clause-root
+unit_hints-requires-clause-root c =
+    root_literal c.args.self.now.trail c.args.place c.lit_at-lit.result c.requires.trail c.requires.root c.requires.within
+    c.lit_at-lit.ensures c.requires.units
 
 pub root-requires-clause-root : goal.root-requires-clause-root
 root-requires-clause-root c = λ k lt same.
@@ -38,7 +29,7 @@ returns-in_ok-vec-clause-searches c =
     let rooted : c.root.new.self ≡ with_root s.trail k id =
     c.root.ensures k within var ∙ ap (λ (t : TrailState). with_root t k id) trail in
     searching_same f.new.self.analyser s.analyser s.arena f.new.self.arena s.watches f.new.self.watches (with_root s.trail k id)
-    c.root.new.self f.ensures.analyser f.ensures.arena f.ensures.watches rooted
+    c.root.new.self (f.ensures.analyser ∙ c.unit_hints.ensures.same) f.ensures.arena f.ensures.watches rooted
     (searching_rooted s.analyser s.arena s.watches s.trail k id c.requires.searches c.requires.within
     (at_root s.trail s.trail c.requires.trail c.requires.root refl k c.requires.within) c.requires.root)
 

@@ -1,7 +1,7 @@
 use Rattle.std.proofs.Common.{◌-◌, ◌<◌, ◌≤◌, length, vec_capacity, min, take, refl, sym, ap, ◌∙◌, subst, arith}
 use Rattle.std.proofs.lemmas.List.{get_or_read}
 use Rattle.trail_core.specs.Trails.{TrailState, IsBacktracked}
-use Rattle.trail_core.specs.Tables.{IsHeld, state_of}
+use Rattle.trail_core.specs.Steps.Tables.{IsHeld, state_of}
 use Rattle.trail_core.proofs.Popped.{ends_at}
 use Rattle.trail_core.proofs.Backtracked.{IsStart, HasRoom, cutting_begins, cutting_goes_on, room_of, held_cut, backtracked_same}
 use Rattle.trail_core.proofs.trail.Trail.backtrack.Goals as goal

@@ -2,7 +2,8 @@
 use Rattle.std.proofs.Common.{ℕ, [], ◌∷◌, ◌++◌, length, ap, ◌∙◌, sym, subst, arith}
 use Rattle.std.proofs.lemmas.List.{length_push}
 use Rattle.cnf_core.specs.Literals.{IsWithin}
-use Rattle.watch_lists.specs.Lists.{WatchLists, list_of, with_watch, without_watch}
+use Rattle.watch_lists.specs.Lists.{WatchLists, list_of, with_watch}
+use Rattle.watch_lists.specs.Steps.Lists.{without_watch}
 use Rattle.watch_lists.proofs.Attached.{added_and_removed, list_set}
 use Rattle.watch_lists.proofs.watches.Watches.attach.Goals as goal
 

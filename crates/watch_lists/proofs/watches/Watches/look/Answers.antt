@@ -3,8 +3,10 @@ use Rattle.std.proofs.lemmas.Bool.{iff_false}
 use Rattle.trail_core.specs.Trails.{HasLiteral}
 use Rattle.cnf_core.specs.Literals.{IsWithin}
 use Rattle.watch_lists.specs.Watchers.{Watcher}
-use Rattle.watch_lists.specs.Propagating.{IsAdvanced, FateSays}
-use Rattle.watch_lists.proofs.Visited.{IsLast, last_paired, blocker_within, forced, IsTurned, visiting_blocked, turned_swapped, turned_same, same_if, same_unless, other_if, other_unless, outdated, advanced_trans}
+use Rattle.watch_lists.specs.Steps.Visiting.{IsAdvanced, FateSays}
+use Rattle.watch_lists.proofs.Visited.{IsLast, last_paired, blocker_within, forced, IsTurned, visiting_blocked, turned_swapped, turned_same}
+use Rattle.trail_core.proofs.Literals.{same_if, same_unless, other_if, other_unless}
+use Rattle.watch_lists.proofs.Visited.{outdated, advanced_trans}
 use Rattle.watch_lists.proofs.watches.Watches.look.Goals as goal
 use Rattle.watch_lists.proofs.watches.Watches.look.Goals.{then-eq, else-eq+else-ne}
 

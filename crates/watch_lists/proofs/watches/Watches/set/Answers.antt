@@ -1,7 +1,8 @@
 use Rattle.std.proofs.Common.{◌≡◌, set, sym, ap, subst}
 use Rattle.std.specs.Vec.{with_item}
 use Rattle.cnf_core.specs.Literals.{IsWithin}
-use Rattle.watch_lists.specs.Lists.{WatchLists, list_of, with_watch_at}
+use Rattle.watch_lists.specs.Lists.{WatchLists, list_of}
+use Rattle.watch_lists.specs.Steps.Lists.{with_watch_at}
 use Rattle.watch_lists.proofs.Viewed.{held, list_here, list_changed}
 use Rattle.watch_lists.proofs.watches.Watches.set.Goals as goal
 

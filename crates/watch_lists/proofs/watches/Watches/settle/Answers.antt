@@ -3,8 +3,9 @@ use Rattle.std.proofs.lemmas.Bool.{iff_false}
 use Rattle.clause_arena.specs.Entries.{literal_of}
 use Rattle.cnf_core.specs.Literals.{Literal}
 use Rattle.watch_lists.specs.Watchers.{Watcher}
-use Rattle.watch_lists.specs.Lists.{WatchLists, with_watch, with_watch_at, without_watch}
-use Rattle.watch_lists.specs.Propagating.{IsAdvanced, FateSays}
+use Rattle.watch_lists.specs.Lists.{WatchLists, with_watch}
+use Rattle.watch_lists.specs.Steps.Lists.{with_watch_at, without_watch}
+use Rattle.watch_lists.specs.Steps.Visiting.{IsAdvanced, FateSays}
 use Rattle.watch_lists.proofs.Visited.{unmarked, IsMoved, settled_true, last_first, forced, moved_arena, moved_watch}
 use Rattle.watch_lists.proofs.watches.Watches.settle.Goals as goal
 

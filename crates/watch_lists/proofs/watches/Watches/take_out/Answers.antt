@@ -1,6 +1,7 @@
 use Rattle.std.proofs.Common.{◌≡◌, ◌<◌, length, set, swap_remove, sym, ap, ◌∙◌, subst}
 use Rattle.cnf_core.specs.Literals.{IsWithin}
-use Rattle.watch_lists.specs.Lists.{WatchLists, no_watch, list_of, without_watch}
+use Rattle.watch_lists.specs.Lists.{WatchLists, no_watch, list_of}
+use Rattle.watch_lists.specs.Steps.Lists.{without_watch}
 use Rattle.watch_lists.proofs.Viewed.{held, list_here, list_changed, taken_out}
 use Rattle.watch_lists.proofs.watches.Watches.take_out.Goals as goal
 

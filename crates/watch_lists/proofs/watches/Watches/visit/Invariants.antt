@@ -2,7 +2,7 @@
 use Rattle.std.proofs.Common.{◌-◌, ◌≤◌, length}
 use Rattle.cnf_core.specs.Literals.{IsWithin}
 use Rattle.watch_lists.specs.Lists.{list_of}
-use Rattle.watch_lists.specs.Propagating.{IsVisiting, IsAdvanced}
+use Rattle.watch_lists.specs.Steps.Visiting.{IsVisiting, IsAdvanced}
 use Rattle.watch_lists.proofs.watches.Watches.visit.Given as goal
 
 abbrev pub invariant-loop-at : goal.invariant-loop-at

@@ -1,24 +1,25 @@
 -- The walk that learns a clause: from the conflict down to the first unique implication point.
-use Rattle.std.specs.Prelude.{◌≡◌, ◌≢◌, ◌⊎◌, ℕ, zero, suc, ◌+◌, ◌==◌, ◌&&◌, ◌<◌, ◌≤◌, ◌^◌, Bool, true, false, if◌then◌else◌, List, [], ◌∷◌, ◌++◌, length, reverse, Contains, AllPairs}
+use Rattle.std.specs.Prelude.{◌≡◌, ◌≢◌, ◌⊎◌, ℕ, ◌+◌, ◌==◌, ◌&&◌, ◌<◌, ◌≤◌, ◌^◌, Bool, true, false, List, [], ◌∷◌, ◌++◌, length, reverse}
+use Rattle.std.specs.Prelude.{Contains, AllPairs}
 use Rattle.cnf_core.specs.Literals.{Literal, Literals, negated}
 use Rattle.clause_arena.specs.Entries.{Entries, entry_at, IsLive}
 use Rattle.trail_core.specs.declared.entry.Assigned.{Assigned}
 use Rattle.trail_core.specs.Trails.{TrailState, assigned_at, IsTrail}
 use Rattle.lrat_lines.specs.Propagation.{Known}
-use Rattle.conflict_analysis.specs.Members.{IsMapOf}
-use Rattle.conflict_analysis.specs.Reasons.{IsFalse, IsFalseBefore, IsFalseAt, IsReasoned, IsUnit}
+use Rattle.conflict_analysis.specs.Members.{IsMapOf, IsProof}
+use Rattle.trail_core.specs.TrueAndFalse.{IsFalse, IsFalseBefore, IsFalseAt}
+use Rattle.conflict_analysis.specs.Reasons.{IsReasoned, IsUnit}
 use Rattle.conflict_analysis.specs.Answers.{IsHighest}
-use Rattle.conflict_analysis.specs.Walks.{WalkView, is_seen, IsGrown}
-use Rattle.conflict_analysis.specs.Resolvents.{Derives, IsLeft}
+use Rattle.conflict_analysis.specs.Steps.Walks.{WalkView, is_seen, IsGrown, AreTakeable, count_below}
+use Rattle.conflict_analysis.specs.Steps.Resolvents.{Derives, IsLeft}
 
 -- whether the entry at this place is of the level, and its variable was met
 abbrev pub is_open : List Assigned → ℕ → (ℕ → Bool) → ℕ → Bool
 is_open es level seen k = seen (assigned_at es k).lit.var && ((assigned_at es k).level == level)
 
 -- how many of the first entries are
-unfoldable pub open_count : List Assigned → ℕ → (ℕ → Bool) → ℕ → ℕ
-open_count es level seen zero = 0
-open_count es level seen (suc n) = open_count es level seen n + (if is_open es level seen n then 1 else 0)
+abbrev pub open_count : List Assigned → ℕ → (ℕ → Bool) → ℕ → ℕ
+open_count es level seen n = count_below (is_open es level seen) n
 
 -- the literal was met, and is false between the root and the level
 pub record IsLower (es : List Assigned) (level : ℕ) (seen : ℕ → Bool) (x : Literal) : Type 0 where
@@ -67,10 +68,6 @@ pub record IsTaken (t : TrailState) (x : Literal) (old new : WalkView) : Type 0 
   pub grown : IsGrown (x ∷ []) (is_seen old) (is_seen new)
   pub sorted : (end : ℕ) → end ≤ length t.entries → IsSorted t end old → IsFalseBefore t.entries end x → IsSorted t end new
 
--- each literal of the clause was met, or is false before this place
-abbrev pub AreTakeable : List Assigned → ℕ → (ℕ → Bool) → Literals → Type 0
-AreTakeable es end seen c = (x : Literal) → Contains c x → (seen x.var ≡ true) ⊎ IsFalseBefore es end x
-
 -- the clause may be added to what was met
 pub record CanAdd (a : Entries) (t : TrailState) (w : WalkView) (reference : ℕ) : Type 0 where
   pub end : ℕ
@@ -112,18 +109,6 @@ pub record CanResolve (a : Entries) (t : TrailState) (w : WalkView) (place : ℕ
   pub met : is_seen w (assigned_at t.entries place).lit.var ≡ true
   pub another : 1 < w.count
 
--- the last place before the end whose variable was met
-pub record IsLastSeen (es : List Assigned) (seen : ℕ → Bool) (end place : ℕ) : Type 0 where
-  pub before : place < end
-  pub met : seen (assigned_at es place).lit.var ≡ true
-  pub none_after : (k : ℕ) → place < k → k < end → seen (assigned_at es k).lit.var ≡ false
-
--- some place before the end
-pub record HasSeen (es : List Assigned) (seen : ℕ → Bool) (end : ℕ) : Type 0 where
-  pub place : ℕ
-  pub before : place < end
-  pub met : seen (assigned_at es place).lit.var ≡ true
-
 -- the first unique implication point is found: its negation and the gathered literals are what is left,
 -- with root literals
 pub record IsFound (a : Entries) (t : TrailState) (first : Literal) (w : WalkView) : Type 0 where
@@ -147,6 +132,26 @@ abbrev pub ResolvesRoots : List Assigned → Literals → List ℕ → List ℕ 
 ResolvesRoots es roots old new = (a : Entries) (known : Known) (own : Literals) → IsMapOf a es known
     → Derives known es (length es) (λ x. Contains own x ⊎ Contains roots x) (reverse old)
     → Derives known es (length es) (Contains own) (reverse new)
+
+-- from these hints to those, the literals of a clause but this one are resolved away: they are false at the root
+-- before the top
+abbrev pub ResolvesOthers : List Assigned → Literals → Literal → List ℕ → List ℕ → Type 0
+ResolvesOthers es c own old new = (a : Entries) (known : Known) (top : ℕ) → IsMapOf a es known → top ≤ length es
+    → ((x : Literal) → Contains c x → x ≢ own → IsFalseBefore es top x)
+    → Derives known es top (Contains c) (reverse old) → Derives known es top (Contains (own ∷ [])) (reverse new)
+
+-- the literal is that of an entry of the root, and the entries before it have units as reasons
+pub record CanShow (a : Entries) (t : TrailState) (l : Literal) (place : ℕ) : Type 0 where
+  pub trail : IsTrail t
+  pub reasons : IsReasoned a t.entries
+  pub within : place < length t.entries
+  pub lit : (assigned_at t.entries place).lit ≡ l
+  pub at_root : (assigned_at t.entries place).level ≡ 0
+  pub units : (k : ℕ) → k < place → IsUnit (assigned_at t.entries k)
+
+-- the hints show the literal as a unit clause
+abbrev pub ShowsLiteral : Entries → List Assigned → Literal → List ℕ → Type 0
+ShowsLiteral a es l hints = (known : Known) → IsMapOf a es known → IsProof known hints (l ∷ [])
 
 -- what the walk has gathered may be learnt
 pub record CanLearn (t : TrailState) (first : Literal) (w : WalkView) : Type 0 where

@@ -1,0 +1,4 @@
+pub mod Walks
+pub mod Resolvents
+pub mod Learning
+pub mod Tracing
