@@ -15,7 +15,8 @@ use Rattle.lrat_log.specs.Entries.{Entry, no_entry, is_learnt, is_import}
 use Rattle.lrat_log.specs.Fresh.{is_learnt_in, learnt_in, epoch_start, IsPeer}
 use Rattle.lrat_log.specs.Kept.{IsNext, EachNext}
 use Rattle.lrat_log.specs.Laws.{IsProper}
-use Rattle.lrat_log.proofs.Prefixes.{EachAfter, each_after_push}
+use Rattle.lrat_lines.specs.Prefixes.{EachAfter}
+use Rattle.lrat_lines.proofs.Prefixes.{each_after_push}
 use Rattle.lrat_log.proofs.Digits.{fresh_clauses_are_few}
 
 -- a clause over n variables that may be learnt in a query after these

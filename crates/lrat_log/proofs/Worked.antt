@@ -19,7 +19,7 @@ use Rattle.lrat_lines.proofs.LiteralSets.{has_of_Contains}
 use Rattle.lrat_lines.specs.Sets.{IsSubset}
 use Rattle.lrat_log.specs.Entries.{Recorded, empty_log, known_after, with_new_query}
 use Rattle.lrat_log.specs.Fresh.{HasNoComplements, learnt_in, epoch_start, IsPeer, IsFresh}
-use Rattle.lrat_log.specs.Kept.{IsHint}
+use Rattle.lrat_lines.specs.Tidy.{IsHint}
 use Rattle.lrat_log.specs.Examples.{refuted, by_first_two, only_one, not_two_or_three, with_core, EpochsAreWorked, LogIsWorked}
 
 -- whether each literal of the first clause stands in the second
