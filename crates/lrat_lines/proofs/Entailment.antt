@@ -202,7 +202,7 @@ lines_entailed F [] p entailed all c there = absurd (Contains-nil c there)
 lines_entailed F (line ∷ lines) p entailed all c there =
     line_entailed F p line lines (after_line F p line) entailed (lines_entailed F lines) refl all c there
 
-member_of_slice_get : {X : Type 0} (xs : List X) (i : ℕ) (x : X) → slice_get xs i ≡ Some x → Contains xs x
+pub member_of_slice_get : {X : Type 0} (xs : List X) (i : ℕ) (x : X) → slice_get xs i ≡ Some x → Contains xs x
 member_of_slice_get [] i x is = absurd (cc)
 member_of_slice_get (y ∷ xs) zero x is = let first : y ≡ x = cc in subst (λ z. Contains (y ∷ xs) z) first (Contains-head y xs)
 member_of_slice_get (y ∷ xs) (suc i) x is = Contains-tail y xs x (member_of_slice_get xs i x is)

@@ -12,6 +12,7 @@ use Rattle.lrat_lines.specs.Sets.{is_same, has, has_complements, IsSameSet}
 use Rattle.lrat_lines.specs.Propagation.{Known, IsSameKnown, AreSameKnown, Refusal}
 use Rattle.lrat_lines.specs.Propagation.{open_literals, by_open, by_set, by_hints, rup}
 use Rattle.lrat_lines.specs.Laws.{PropagatesBySets}
+use Rattle.lrat_lines.proofs.MappedLists.{source_of_map, member_of_map}
 use Rattle.lrat_lines.proofs.LiteralSets.{is_same-true, is_same_of_equal, Contains_of_has, has_of_Contains}
 
 pub same_set_itself : (c : Literals) → IsSameSet c c
@@ -21,12 +22,12 @@ turned : {c d : Literals} → IsSameSet c d → IsSameSet d c
 turned {c} {d} same = record { forth = same.back; back = same.forth }
 
 -- two tests that are passed at the same time
-same_test : (p q : Bool) → (p ≡ true → q ≡ true) → (q ≡ true → p ≡ true) → p ≡ q
+pub same_test : (p q : Bool) → (p ≡ true → q ≡ true) → (q ≡ true → p ≡ true) → p ≡ q
 same_test true q forth back = sym (forth refl)
 same_test false true forth back = back refl
 same_test false false forth back = refl
 
-has-same : (c d : Literals) (l : Literal) → IsSameSet c d → has c l ≡ has d l
+pub has-same : (c d : Literals) (l : Literal) → IsSameSet c d → has c l ≡ has d l
 has-same c d l same =
     same_test (has c l) (has d l)
     (λ some. has_of_Contains d l (same.forth l (Contains_of_has c l some)))
@@ -41,37 +42,14 @@ has_complements-same : (c d : Literals) → IsSameSet c d → has_complements c 
 has_complements-same c d same =
     same_test (has_complements c) (has_complements d) (complements_in c d same) (complements_in d c (turned same))
 
--- the literals of a map are the negations of a clause's
-record IsNegation (c : Literals) (k : Literal) : Type 0 where
-  literal : Literal
-  member : Contains c literal
-  is : negated literal ≡ k
+map_within : (f : Literal → Literal) (c d : Literals) → ((l : Literal) → Contains c l → Contains d l) → (k : Literal)
+    → Contains (map f c) k → Contains (map f d) k
+map_within f c d within k there =
+    let x = source_of_map f c k there in
+    subst (λ (m : Literal). Contains (map f d) m) x.is (member_of_map f d x.source (within x.source x.member))
 
-negation_of : (c : Literals) (k : Literal) → Contains (map negated c) k → IsNegation c k
-negation_of [] k there = absurd (Contains-nil k there)
-negation_of (l ∷ c) k there = ⊎_elim
-    (λ (is : negated l ≡ k). record { literal = l; member = Contains-head l c; is = is })
-    (λ (later : Contains (map negated c) k). later_one (negation_of c k later))
-    (Contains-cons_cases (negated l) (map negated c) k there)
-  where
-    later_one : IsNegation c k → IsNegation (l ∷ c) k
-    later_one n = record { literal = n.literal; member = Contains-tail l c n.literal n.member; is = n.is }
-
-negation_in : (c : Literals) (l : Literal) → Contains c l → Contains (map negated c) (negated l)
-negation_in [] l there = absurd (Contains-nil l there)
-negation_in (k ∷ c) l there = ⊎_elim
-    (λ (is : k ≡ l). subst (λ (m : Literal). Contains (map negated (k ∷ c)) (negated m)) is (Contains-head (negated k) (map negated c)))
-    (λ (later : Contains c l). Contains-tail (negated k) (map negated c) (negated l) (negation_in c l later))
-    (Contains-cons_cases k c l there)
-
-negations_within : (c d : Literals) → ((l : Literal) → Contains c l → Contains d l) → (k : Literal) → Contains (map negated c) k
-    → Contains (map negated d) k
-negations_within c d within k there =
-    let n = negation_of c k there in
-    subst (λ (m : Literal). Contains (map negated d) m) n.is (negation_in d n.literal (within n.literal n.member))
-
-negations-same : (c d : Literals) → IsSameSet c d → IsSameSet (map negated c) (map negated d)
-negations-same c d same = record { forth = negations_within c d same.forth; back = negations_within d c same.back }
+pub map-same : (f : Literal → Literal) (c d : Literals) → IsSameSet c d → IsSameSet (map f c) (map f d)
+map-same f c d same = record { forth = map_within f c d same.forth; back = map_within f d c same.back }
 
 push_within : (ts us : Literals) (l : Literal) → ((x : Literal) → Contains ts x → Contains us x) → (x : Literal)
     → Contains (ts ++ l ∷ []) x → Contains (us ++ l ∷ []) x
@@ -80,7 +58,7 @@ push_within ts us l within x there = ⊎_elim
     (λ (is : l ≡ x). subst (λ (y : Literal). Contains (us ++ l ∷ []) y) is (Contains-push us l))
     (Contains-push_cases ts l x there)
 
-push-same : (ts us : Literals) (l : Literal) → IsSameSet ts us → IsSameSet (ts ++ l ∷ []) (us ++ l ∷ [])
+pub push-same : (ts us : Literals) (l : Literal) → IsSameSet ts us → IsSameSet (ts ++ l ∷ []) (us ++ l ∷ [])
 push-same ts us l same = record { forth = push_within ts us l same.forth; back = push_within us ts l same.back }
 
 open_within : (ts us c d : Literals) → IsSameSet ts us → IsSameSet c d → (x : Literal) → Contains (open_literals ts c) x
@@ -100,7 +78,7 @@ open-same ts us c d trues same = record {
 abbrev AreOne : Literals → Type 0
 AreOne os = (x y : Literal) → Contains os x → Contains os y → x ≡ y
 
-first_itself : (l : Literal) (ls : Literals) (x : Literal) → list_all (is_same l) ls ≡ true → Contains (l ∷ ls) x → l ≡ x
+pub first_itself : (l : Literal) (ls : Literals) (x : Literal) → list_all (is_same l) ls ≡ true → Contains (l ∷ ls) x → l ≡ x
 first_itself l ls x all there = ⊎_elim
     (λ (is : l ≡ x). is)
     (λ (later : Contains ls x). is_same-true l x (passes_of_list_all (is_same l) ls x all later))
@@ -160,7 +138,7 @@ pub propagates_by_sets : PropagatesBySets
 propagates_by_sets known other hints c d all same =
     ap (λ (b : Bool). if b then None else by_hints known hints (map negated c)) (has_complements-same c d same)
     ∙ ap (λ (o : Option Refusal). if has_complements d then None else o)
-    (by_hints-same known other all hints (map negated c) (map negated d) (negations-same c d same))
+    (by_hints-same known other all hints (map negated c) (map negated d) (map-same negated c d same))
 
 -- what is known is the same as itself, and as what is equal to it
 same_known : (o p : Option Literals) → o ≡ p → IsSameKnown o p

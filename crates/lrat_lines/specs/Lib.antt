@@ -2,6 +2,9 @@ pub mod Sets
 pub mod Propagation
 pub mod Tight
 pub mod Proofs
+pub mod Prefixes
+pub mod Tidy
+pub mod Renumbering
 pub mod Laws
 pub mod Examples
 pub mod Tokens

@@ -14,10 +14,14 @@ pub record Progress : Type 0 where
   pub known : Known
   pub top : ℕ
 
--- at the start the clauses of the formula are known by the ids from 1 on
+-- these sets are known by the ids from 1 on
+abbrev pub numbered : List Literals → Known
+numbered sets = λ id. if id == 0 then None else slice_get sets (id - 1)
+
+-- at the start the clauses of the formula are known
 abbrev pub start : Cnf → Progress
 start F = record {
-  known = λ id. if id == 0 then None else slice_get F.clauses (id - 1);
+  known = numbered F.clauses;
   top = length F.clauses;
 }
 

@@ -1,9 +1,10 @@
 ghost use Rattle.std.specs.Prelude.{◌≡◌, ◌<◌, ◌^◌, ◌↔◌, ℕ, [], IsTrue, length};
 ghost use Rattle.std.specs.Slice.Iter.{iter_rest, iter_steps};
 ghost use Rattle.std.specs.Iterator.Runs.{EveryRun, ItemsMapTo};
+ghost use Rattle.lrat_lines.specs.Tidy.{clause_of, hints_of};
 ghost use Rattle.lrat_lines.specs.declared.line.LineEnd.TheVariants.{Memory};
 
-use cnf_core::Clause;
+use cnf_core::{Clause, Lit};
 use std::alloc::AllocFailed;
 use std::error::Error;
 use std::fmt::{Display, Formatter};
@@ -68,6 +69,28 @@ pub enum Line {
     Add { id: u64, lits: Clause, hints: Ids },
     /// Clauses are no longer used. The line's own id has no effect.
     Delete { id: u64, ids: Ids },
+}
+
+impl Line {
+    /// The literals of the clause that the line adds, or none where it deletes.
+    pub fn lits(&self) -> &[Lit]
+        ensures { result.now ≡ clause_of self.now }
+    {
+        match self {
+            Line::Add { lits, .. } => lits.as_slice(),
+            Line::Delete { .. } => &[],
+        }
+    }
+
+    /// The hints that show that clause, or none where the line deletes.
+    pub fn hints(&self) -> &[u64]
+        ensures { result.now ≡ hints_of self.now }
+    {
+        match self {
+            Line::Add { hints, .. } => hints.as_slice(),
+            Line::Delete { .. } => &[],
+        }
+    }
 }
 
 /// The lines of a proof, in order.

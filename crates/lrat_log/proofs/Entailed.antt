@@ -15,7 +15,7 @@ use Rattle.lrat_log.specs.declared.kind.Kind.TheVariants.{Learnt, Unit as UnitKi
 use Rattle.lrat_log.specs.Entries.{Entry, no_entry, no_literal, is_import, HasLengthOf, known_after}
 use Rattle.lrat_log.specs.Kept.{IsNext}
 use Rattle.lrat_log.specs.Laws.{LoggedIsEntailed}
-use Rattle.lrat_log.proofs.Prefixes.{all_by_each_after}
+use Rattle.lrat_lines.proofs.Prefixes.{all_by_each_after}
 
 abbrev IsEntailed : Cnf → Entry → Type 0
 IsEntailed F e = EntailsClause F e.literals

@@ -11,7 +11,7 @@ use Rattle.lrat_log.specs.declared.kind.Kind.{Kind}
 use Rattle.lrat_log.specs.Entries.{Entry, Recorded, is_learnt, next_entry, with_entry, is_learnt_entry}
 use Rattle.lrat_log.specs.Kept.{IsNext}
 use Rattle.lrat_log.specs.Steps.Counted.{IsCounted}
-use Rattle.lrat_log.proofs.Prefixes.{each_after_push}
+use Rattle.lrat_lines.proofs.Prefixes.{each_after_push}
 
 pub counted_push : (L : Recorded) (used : Bool) (learnt : ℕ) (kind : Kind) (c : Literals) (hints : List ℕ) (clock n : ℕ)
     → IsCounted L used learnt → IsNext L.formula L.entries (next_entry L kind c hints clock) → L.clock ≤ clock

@@ -1,8 +1,10 @@
 -- The clauses that were learnt in one query, each with those before it.
+use Rattle.std.proofs.Common.{⊎_elim, ◌-◌, ◌*◌, drop}
 use Rattle.std.proofs.Common.{◌≡◌, ℕ, zero, suc, ◌+◌, ◌^◌, ◌<◌, ◌≤◌, ◌==◌, true, not, cond, List, [], ◌∷◌, ◌++◌, length, take, get_or}
 use Rattle.std.proofs.Common.{Contains, map, filter, refl, sym, ap, ◌∙◌, subst, inl, inr, arith}
-use Rattle.std.proofs.lemmas.Bool.{cases_Bool, and_parts, eqb-true, cond-true, cond-false}
-use Rattle.std.proofs.lemmas.List.{take_more, take_all, map-append, append-nil, get_or-take, length-take-le}
+use Rattle.std.proofs.Math.Nat.{pow-suc, one-le-pow}
+use Rattle.std.proofs.lemmas.Bool.{cases_Bool, cases_lt, and_parts, eqb-true, cond-true, cond-false}
+use Rattle.std.proofs.lemmas.List.{take_more, take_all, map-append, append-nil, get_or-take, get_or-drop, length-take-le, length-drop, drop-take}
 use Rattle.std.proofs.lemmas.List.Elements.{filter-append, Contains-get_or}
 use Rattle.cnf_core.specs.Literals.{Literals}
 use Rattle.cnf_core.specs.Formulas.{Cnf}
@@ -10,10 +12,11 @@ use Rattle.lrat_lines.specs.Sets.{IsSubset}
 use Rattle.lrat_log.specs.declared.kind.Kind.{Kind}
 use Rattle.lrat_log.specs.declared.kind.Kind.TheVariants.{Learnt, Unit as UnitKind, Core, Empty, Import}
 use Rattle.lrat_log.specs.Entries.{Entry, no_entry, is_learnt, is_import}
-use Rattle.lrat_log.specs.Fresh.{is_learnt_in, learnt_in, IsPeer}
+use Rattle.lrat_log.specs.Fresh.{is_learnt_in, learnt_in, epoch_start, IsPeer}
 use Rattle.lrat_log.specs.Kept.{IsNext, EachNext}
 use Rattle.lrat_log.specs.Laws.{IsProper}
-use Rattle.lrat_log.proofs.Prefixes.{EachAfter, each_after_push}
+use Rattle.lrat_lines.specs.Prefixes.{EachAfter}
+use Rattle.lrat_lines.proofs.Prefixes.{each_after_push}
 use Rattle.lrat_log.proofs.Digits.{fresh_clauses_are_few}
 
 -- a clause over n variables that may be learnt in a query after these
@@ -82,16 +85,77 @@ each_new F es q each =
     subst (λ (xs : List Entry). EachAfter (IsNew F.vars) (learnt_in xs q)) (take_all (length es) es (omega arith))
     (each_new_upto F es q each (length es) (omega arith))
 
--- a clause is compared with all that were learnt before it in its query
-pub query_is_short : (F : Cnf) (es : List Entry) (q : ℕ) → EachNext F es → length (learnt_in es q) < 3 ^ F.vars
+-- epochs
+
+epochs_double : (epoch : ℕ) → epoch_start (suc epoch) ≡ 2 * epoch_start epoch + 1000
+epochs_double epoch =
+    let some : 1 ≤ 2 ^ epoch = one-le-pow epoch 2 (omega arith) in
+    omega (arith, pow-suc 2 epoch)
+
+epoch_past : (k : ℕ) → k < epoch_start (suc k)
+epoch_past zero = omega arith
+epoch_past (suc k) = omega (arith, epoch_past k, epochs_double (suc k))
+
+-- the epoch in which the clause after k others of a query is learnt
+record IsInEpoch (k : ℕ) : Type 0 where
+  epoch : ℕ
+  begun : epoch_start epoch ≤ k
+  unended : k < epoch_start (suc epoch)
+
+epoch_before : (k m : ℕ) → k < epoch_start m → IsInEpoch k
+epoch_before k zero below = absurd (omega arith)
+epoch_before k (suc m) below = ⊎_elim
+    (λ (earlier : k < epoch_start m). epoch_before k m earlier)
+    (λ (begun : epoch_start m ≤ k). record { epoch = m; begun = begun; unended = below })
+    (cases_lt k (epoch_start m))
+
+-- the clauses of an epoch before this place are few: each is compared with those before it
+epoch_is_short : (n : ℕ) (cs : List Literals) (epoch end : ℕ) → EachAfter (IsNew n) cs → epoch_start epoch ≤ end
+    → end ≤ length cs → end ≤ epoch_start (suc epoch) → end - epoch_start epoch < 3 ^ n
+epoch_is_short n cs epoch end new begun within unended =
+    let first = epoch_start epoch in
+    let count = end - first in
+    let rest = drop first cs in
+    let ds = take count rest in
+    let size : length ds ≡ count = length-take-le count rest (omega (arith, length-drop first cs)) in
+    let read : (i : ℕ) (d : Literals) → i < count → get_or ds i d ≡ get_or cs (first + i) d =
+    λ i d lt. get_or-take count rest i d lt ∙ get_or-drop first cs i d in
+    subst (λ (k : ℕ). k < 3 ^ n) size
+    (fresh_clauses_are_few n ds
+    (λ k d lt. subst (λ (c : Literals). IsProper n c) (sym (read k d (omega arith))) (new (first + k) d (omega arith)).proper)
+    (λ i j d before lt.
+    let low : i < count = omega arith in
+    let high : j < count = omega arith in
+    let known : length (take (first + j) cs) ≡ first + j = length-take-le (first + j) cs (omega arith) in
+    let part : length (take j rest) ≡ j = length-take-le j rest (omega (arith, length-drop first cs)) in
+    let there : Contains (take j rest) (get_or cs (first + i) d) =
+    subst (λ (c : Literals). Contains (take j rest) c) (get_or-take j rest i d before ∙ get_or-drop first cs i d)
+    (Contains-get_or (take j rest) i d (omega arith)) in
+    let peer : IsPeer (take (first + j) cs) (get_or cs (first + i) d) =
+    record {
+      epoch = epoch;
+      begun = omega arith;
+      unended = omega arith;
+      member = subst (λ (xs : List Literals). Contains xs (get_or cs (first + i) d)) (sym (drop-take first j cs)) there;
+    } in
+    rw (read i d low, read j d high) ((new (first + j) d (omega arith)).new (get_or cs (first + i) d) peer)))
+
+-- so many are learnt before an epoch, since the one before it is whole
+epoch_begins_early : (n : ℕ) (cs : List Literals) (epoch : ℕ) → EachAfter (IsNew n) cs → epoch_start epoch ≤ length cs
+    → epoch_start epoch ≤ 2 * 3 ^ n
+epoch_begins_early n cs zero new begun = omega arith
+epoch_begins_early n cs (suc epoch) new begun =
+    let double = epochs_double epoch in
+    let whole : epoch_start (suc epoch) - epoch_start epoch < 3 ^ n =
+    epoch_is_short n cs epoch (epoch_start (suc epoch)) new (omega (arith, double)) begun (omega arith) in
+    omega (arith, double)
+
+-- a clause is compared with those before it in its epoch
+pub query_is_short : (F : Cnf) (es : List Entry) (q : ℕ) → EachNext F es → length (learnt_in es q) < 3 * 3 ^ F.vars
 query_is_short F es q each =
     let cs = learnt_in es q in
     let new = each_new F es q each in
-    fresh_clauses_are_few F.vars cs
-    (λ k d within. (new k d within).proper)
-    (λ i j d before within.
-    let short : length (take j cs) ≡ j = length-take-le j cs (omega arith) in
-    let there : Contains (take j cs) (get_or cs i d) =
-    subst (λ (c : Literals). Contains (take j cs) c) (get_or-take j cs i d before)
-    (Contains-get_or (take j cs) i d (omega arith)) in
-    (new j d within).new (get_or cs i d) there)
+    let now = epoch_before (length cs) (suc (length cs)) (epoch_past (length cs)) in
+    let last : length cs - epoch_start now.epoch < 3 ^ F.vars =
+    epoch_is_short F.vars cs now.epoch (length cs) new now.begun (omega arith) (omega (arith, now.unended)) in
+    omega (arith, now.begun, epoch_begins_early F.vars cs now.epoch new now.begun)

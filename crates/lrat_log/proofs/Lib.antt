@@ -1,4 +1,3 @@
-pub mod Prefixes
 pub mod Laid
 pub mod Kept
 mod Entailed

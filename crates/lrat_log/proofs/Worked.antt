@@ -1,10 +1,12 @@
 -- The definitions compute at the example.
 use Rattle.std.proofs.Common.{◌≡◌, ℕ, ◌<◌, Bool, true, false, List, [], ◌∷◌, length, Contains, refl, sym, ap, ◌∙◌, subst, inl, inr, ⊎_elim}
-use Rattle.std.proofs.Common.{arith}
+use Rattle.std.proofs.Common.{zero, suc, ◌*◌, ◌-◌, ◌^◌, ◌≤◌, take, drop, take-append-drop, arith, lit<}
 use Rattle.std.specs.Prelude.{All, Some, nat_lt, nat_le, ◌&&◌}
 use Rattle.std.specs.List.{list_any, list_all}
 use Rattle.std.proofs.lemmas.Bool.{both_ways, and_parts, ltb-true, leb-true}
-use Rattle.std.proofs.lemmas.List.Elements.{All-weaker}
+use Rattle.std.proofs.Math.Nat.{pow-suc, one-le-pow}
+use Rattle.std.proofs.lemmas.List.{drop_all}
+use Rattle.std.proofs.lemmas.List.Elements.{All-weaker, Contains-append_right}
 use Rattle.std.proofs.lemmas.List.Sums.{AllPass-from_list_all}
 use Rattle.cnf_core.specs.Literals.{Literal, Literals, negated, IsWithin, AreWithin}
 use Rattle.cnf_core.specs.Formulas.{entails, models, assignments}
@@ -16,9 +18,9 @@ use Rattle.lrat_lines.specs.Tight.{IsTight, IsTightFrom, AddsAt, StandsIn}
 use Rattle.lrat_lines.proofs.LiteralSets.{has_of_Contains}
 use Rattle.lrat_lines.specs.Sets.{IsSubset}
 use Rattle.lrat_log.specs.Entries.{Recorded, empty_log, known_after, with_new_query}
-use Rattle.lrat_log.specs.Fresh.{HasNoComplements, learnt_in, IsFresh}
-use Rattle.lrat_log.specs.Kept.{IsHint}
-use Rattle.lrat_log.specs.Examples.{refuted, by_first_two, only_one, not_two_or_three, with_core, LogIsWorked}
+use Rattle.lrat_log.specs.Fresh.{HasNoComplements, learnt_in, epoch_start, IsPeer, IsFresh}
+use Rattle.lrat_lines.specs.Tidy.{IsHint}
+use Rattle.lrat_log.specs.Examples.{refuted, by_first_two, only_one, not_two_or_three, with_core, EpochsAreWorked, LogIsWorked}
 
 -- whether each literal of the first clause stands in the second
 abbrev is_subset : Literals → Literals → Bool
@@ -39,6 +41,10 @@ plain_by c none l there other =
     both_ways (has_complements c) none
     (list_any_of_member (λ (k : Literal). has c (negated k)) c l there (has_of_Contains c (negated l) other))
 
+member_of_drop : (n : ℕ) (cs : List Literals) (d : Literals) → Contains (drop n cs) d → Contains cs d
+member_of_drop n cs d there =
+    subst (λ (ds : List Literals). Contains ds d) (take-append-drop n cs) (Contains-append_right (take n cs) (drop n cs) d there)
+
 fresh_by : (L : Recorded) (c : Literals) → 0 < length c → has_complements c ≡ false
     → list_any (λ (d : Literals). is_subset d c) L.formula.clauses ≡ false
     → list_any (λ (d : Literals). is_subset d c) (learnt_in L.entries L.query) ≡ false
@@ -47,7 +53,9 @@ fresh_by L c some plain no_input no_learnt = record {
   some = some;
   plain = plain_by c plain;
   no_input = no_part L.formula.clauses c no_input;
-  no_learnt = no_part (learnt_in L.entries L.query) c no_learnt;
+  no_learnt = λ d peer.
+      no_part (learnt_in L.entries L.query) c no_learnt d
+      (member_of_drop (epoch_start peer.epoch) (learnt_in L.entries L.query) d peer.member);
 }
 
 -- the literals' variables, and the hints, are in range, by a test
@@ -165,6 +173,33 @@ first_input =
     Contains-head (positive 1 ∷ positive 2 ∷ [])
     ((positive 1 ∷ negative 2 ∷ []) ∷ (negative 1 ∷ positive 3 ∷ []) ∷ (negative 1 ∷ negative 3 ∷ []) ∷ [])
 
+-- a clause of the first epoch
+first_peer : (learnt : List Literals) (d : Literals) → length learnt < 1000 → Contains learnt d → IsPeer learnt d
+first_peer learnt d few there = record { epoch = 0; begun = omega arith; unended = few; member = there }
+
+only_one_before : IsPeer (only_one ∷ []) only_one
+only_one_before = first_peer (only_one ∷ []) only_one (lit< tt) (Contains-head only_one [])
+
+-- where an epoch begins, nothing was learnt in it
+no_peer : (learnt : List Literals) (d : Literals) → length learnt ≡ 1000 → IsPeer learnt d → ⊥
+no_peer learnt d count peer =
+    Contains-nil d (subst (λ (cs : List Literals). Contains cs d)
+    (drop_all (epoch_start peer.epoch) learnt (late peer.epoch peer.unended)) peer.member)
+  where
+    late : (epoch : ℕ) → length learnt < epoch_start (suc epoch) → length learnt ≤ epoch_start epoch
+    late zero unended = absurd (omega arith)
+    late (suc epoch) unended = omega (arith, pow-suc 2 epoch, one-le-pow epoch 2 (omega arith))
+
+pub worked_epochs : EpochsAreWorked
+worked_epochs = record {
+  first = refl;
+  second = refl;
+  third = refl;
+  fourth = refl;
+  in_first = first_peer;
+  at_second = no_peer;
+}
+
 pub worked : LogIsWorked
 unfolding entails models assignments
 worked = record {
@@ -189,7 +224,7 @@ worked = record {
   empty = record { within = within_by 3 [] refl; hints_before = hints_by 11 (6 ∷ 3 ∷ 4 ∷ []) refl; proved = refl };
   conflict_itself = λ fresh.
       fresh.no_input (positive 1 ∷ positive 2 ∷ []) first_input (λ l there. there);
-  learnt_before = λ fresh. fresh.no_learnt only_one (Contains-head only_one []) (λ l there. there);
+  learnt_before = λ fresh. fresh.no_learnt only_one only_one_before (λ l there. there);
   needless_literal = needless_literal;
   needless_hint = needless_hint;
 }

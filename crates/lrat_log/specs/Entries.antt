@@ -5,6 +5,7 @@ use Rattle.std.specs.List.{list_any}
 use Rattle.cnf_core.specs.Literals.{Literal, Literals}
 use Rattle.cnf_core.specs.Formulas.{Cnf}
 use Rattle.lrat_lines.specs.Propagation.{Known}
+use Rattle.lrat_lines.specs.Proofs.{numbered}
 use Rattle.lrat_log.specs.declared.kind.Kind.{Kind}
 use Rattle.lrat_log.specs.declared.kind.Kind.TheVariants.{Learnt, Unit as UnitKind, Core, Empty, Import}
 
@@ -80,8 +81,7 @@ id_after F before = length F.clauses + 1 + length before
 
 -- the clauses that are known by their ids after these entries, imports too
 abbrev pub known_after : Cnf → List Entry → Known
-known_after F before =
-    λ id. if id == 0 then None else slice_get (F.clauses ++ map (λ e. e.literals) before) (id - 1)
+known_after F before = numbered (F.clauses ++ map (λ e. e.literals) before)
 
 -- the entry of a clause that is written at this clock
 abbrev pub next_entry : Recorded → Kind → Literals → List ℕ → ℕ → Entry

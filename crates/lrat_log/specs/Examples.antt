@@ -1,13 +1,13 @@
 -- A log over a small formula, worked by the definitions: 1 or 2; 1 or -2; -1 or 3; -1 or -3, over three
 -- variables. It has no model.
-use Rattle.std.specs.Prelude.{ℕ, List, [], ◌∷◌}
+use Rattle.std.specs.Prelude.{◌≡◌, ℕ, ◌<◌, List, [], ◌∷◌, length, Contains}
 use Rattle.cnf_core.specs.Literals.{Literals}
 use Rattle.cnf_core.specs.Formulas.{Cnf, empty_formula, Entails}
 use Rattle.lrat_lines.specs.Examples.{positive, negative}
 use Rattle.lrat_lines.specs.Tight.{IsTight}
 use Rattle.lrat_log.specs.declared.kind.Kind.TheVariants.{Learnt, Unit as UnitKind, Core, Empty}
 use Rattle.lrat_log.specs.Entries.{Recorded, empty_log, known_after, with_shown, with_import, with_new_query}
-use Rattle.lrat_log.specs.Fresh.{IsFresh}
+use Rattle.lrat_log.specs.Fresh.{epoch_start, IsPeer, IsFresh}
 use Rattle.lrat_log.specs.Kept.{IsShown}
 
 abbrev pub refuted : Cnf
@@ -45,6 +45,15 @@ with_imports = with_import (with_import with_learnt_again (positive 3) 7) (posit
 
 abbrev pub with_empty : Recorded
 with_empty = with_shown with_imports Empty [] (6 ∷ 3 ∷ 4 ∷ [])
+
+-- the ends of the first epochs, and which clauses are compared there
+pub record EpochsAreWorked : Type 0 where
+  pub first : epoch_start 0 ≡ 0
+  pub second : epoch_start 1 ≡ 1000
+  pub third : epoch_start 2 ≡ 3000
+  pub fourth : epoch_start 3 ≡ 7000
+  pub in_first : (learnt : List Literals) (d : Literals) → length learnt < 1000 → Contains learnt d → IsPeer learnt d
+  pub at_second : (learnt : List Literals) (d : Literals) → length learnt ≡ 1000 → IsPeer learnt d → ⊥
 
 -- the clause may be learnt now
 pub record MayBeLearnt (L : Recorded) (hints : List ℕ) (c : Literals) : Type 0 where

@@ -1,6 +1,6 @@
--- Which learnt clauses are new: no clause of the formula, and none that was learnt before in the query,
--- is a part of them.
-use Rattle.std.specs.Prelude.{ℕ, ◌<◌, ◌==◌, Bool, ◌&&◌, List, length, map, filter, Contains}
+-- Which learnt clauses are new: no clause of the formula, and none that was learnt before in the same epoch of the
+-- query, is a part of them.
+use Rattle.std.specs.Prelude.{ℕ, suc, ◌-◌, ◌*◌, ◌^◌, ◌<◌, ◌≤◌, ◌==◌, Bool, ◌&&◌, List, length, drop, map, filter, Contains}
 use Rattle.cnf_core.specs.Literals.{Literal, Literals, negated}
 use Rattle.cnf_core.specs.Formulas.{Cnf}
 use Rattle.lrat_lines.specs.Sets.{IsSubset}
@@ -18,9 +18,18 @@ is_learnt_in query e = is_learnt e.kind && (e.query == query)
 abbrev pub learnt_in : List Entry → ℕ → List Literals
 learnt_in es query = map (λ e. e.literals) (filter (is_learnt_in query) es)
 
--- where these clauses were learnt in a query so far, the next one is compared with this one
-abbrev pub IsPeer : List Literals → Literals → Type 0
-IsPeer learnt d = Contains learnt d
+-- a query is cut into epochs, in which 1,000, 2,000, 4,000 and so on clauses are learnt: so many were learnt in the
+-- query before an epoch, counted from 0
+abbrev pub epoch_start : ℕ → ℕ
+epoch_start epoch = 1000 * (2 ^ epoch - 1)
+
+-- where these clauses were learnt in a query so far, the next one is compared with this one: it was learnt in the
+-- same epoch
+pub record IsPeer (learnt : List Literals) (d : Literals) : Type 0 where
+  pub epoch : ℕ
+  pub begun : epoch_start epoch ≤ length learnt
+  pub unended : length learnt < epoch_start (suc epoch)
+  pub member : Contains (drop (epoch_start epoch) learnt) d
 
 -- a clause may be learnt in the query after these entries
 pub record IsFresh (F : Cnf) (before : List Entry) (query : ℕ) (c : Literals) : Type 0 where

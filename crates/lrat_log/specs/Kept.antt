@@ -1,17 +1,14 @@
 -- What a log keeps: each entry follows from the formula and the entries before it, learnt clauses are
 -- fresh with tight hints, and clocks never fall.
-use Rattle.std.specs.Prelude.{ℕ, ◌<◌, ◌≤◌, not, IsTrue, List, length, take, All, slice_index_or}
+use Rattle.std.specs.Prelude.{ℕ, ◌≤◌, not, IsTrue, List, length, All}
 use Rattle.cnf_core.specs.Literals.{Literals, AreWithin}
 use Rattle.cnf_core.specs.Formulas.{Cnf, Entails}
 use Rattle.lrat_lines.specs.Propagation.{IsRup}
+use Rattle.lrat_lines.specs.Prefixes.{EachAfter}
+use Rattle.lrat_lines.specs.Tidy.{IsHint}
 use Rattle.lrat_lines.specs.Tight.{IsTight}
 use Rattle.lrat_log.specs.Entries.{Entry, Recorded, HasLengthOf, is_learnt, is_import, id_after, known_after}
 use Rattle.lrat_log.specs.Fresh.{IsFresh}
-
--- the hint is the id of a clause of the formula or of an entry before this id
-pub record IsHint (id hint : ℕ) : Type 0 where
-  pub low : 0 < hint
-  pub high : hint < id
 
 -- a clause may be written after these entries with these hints
 pub record IsShown (F : Cnf) (before : List Entry) (hints : List ℕ) (c : Literals) : Type 0 where
@@ -32,7 +29,7 @@ pub record IsNext (F : Cnf) (before : List Entry) (e : Entry) : Type 0 where
 
 -- each entry may stand after those before it
 abbrev pub EachNext : Cnf → List Entry → Type 0
-EachNext F es = (k : ℕ) (d : Entry) → k < length es → IsNext F (take k es) (slice_index_or es k d)
+EachNext F es = EachAfter (IsNext F) es
 
 -- what every log keeps
 pub record IsLog (L : Recorded) : Type 0 where

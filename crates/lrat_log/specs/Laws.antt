@@ -27,7 +27,7 @@ FreshClausesAreFew = (n : ℕ) (cs : List Literals) → All (IsProper n) cs → 
 
 -- so many learnt clauses are enough for a formula of n variables
 abbrev pub enough : ℕ → ℕ
-enough n = 2 * (n + 1) * 3 ^ n
+enough n = 8 * (n + 1) * 3 ^ n
 
 -- how many queries have a learnt clause
 abbrev pub learning_queries : List Entry → ℕ

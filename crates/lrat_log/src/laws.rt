@@ -1,6 +1,6 @@
 //! What holds of every log by the definitions alone. The functions do nothing: each one's contract is the
 //! law.
-ghost use Rattle.lrat_log.specs.Examples.{LogIsWorked};
+ghost use Rattle.lrat_log.specs.Examples.{EpochsAreWorked, LogIsWorked};
 ghost use Rattle.lrat_log.specs.Laws.{LoggedIsEntailed, FreshClausesAreFew, LearningQueriesAreFew, NoLogIsFull};
 
 /// Each clause of a log holds in every model of its formula.
@@ -20,9 +20,14 @@ pub fn learning_queries_are_few()
     ensures { LearningQueriesAreFew }
 {}
 
-/// With a budget of at least 2 (n + 1) 3^n learnt clauses for n variables no log is full.
+/// With a budget of at least 8 (n + 1) 3^n learnt clauses for n variables no log is full.
 pub fn no_log_is_full()
     ensures { NoLogIsFull }
+{}
+
+/// The first epochs of a query, worked: the second begins with an empty list of clauses to compare with.
+pub fn worked_epochs()
+    ensures { EpochsAreWorked }
 {}
 
 /// The definitions of a log, worked on the formula of the clauses `1 2`, `1 -2`, `-1 3` and `-1 -3`.

@@ -102,7 +102,7 @@ impl<'f> Log<'f> {
     /// stays as it was.
     ///
     /// The hints show it by reverse unit propagation, none of them in vain. No clause of the formula, and
-    /// none learnt before in the query, is a part of it.
+    /// none learnt before in the query's present epoch, is a part of it.
     pub fn learnt(&mut self, lits: &[Lit], hints: &[u64]) -> Result<u64, NoMemory>
         requires shown { IsShown self.old.formula self.old.entries hints.now lits.now }
         requires fresh { IsFresh self.old.formula self.old.entries self.old.query lits.now }

@@ -1,13 +1,10 @@
 -- Facts that each element owes to those before it.
 use Rattle.std.proofs.Common.{ℕ, zero, suc, ◌+◌, ◌<◌, ◌≤◌, ◌≡◌, List, [], ◌∷◌, ◌++◌, length, take, get_or, subst, ⊎_elim, arith}
 use Rattle.std.specs.Prelude.{All}
+use Rattle.lrat_lines.specs.Prefixes.{EachAfter}
 use Rattle.std.proofs.lemmas.Bool.{cases_lt}
 use Rattle.std.proofs.lemmas.List.{take-append-le, take_at, take_all, get_or_append_left, get_or_push, length_push}
 use Rattle.std.proofs.lemmas.List.Elements.{All-nil, All-more}
-
--- P holds of each element and the list of those before it
-abbrev pub EachAfter : {X : Type 0} → (List X → X → Type 0) → List X → Type 0
-EachAfter {X} P xs = (k : ℕ) (d : X) → k < length xs → P (take k xs) (get_or xs k d)
 
 pub each_after_push : {X : Type 0} (P : List X → X → Type 0) (xs : List X) (x : X) → EachAfter P xs → P xs x
     → EachAfter P (xs ++ x ∷ [])
