@@ -4,7 +4,8 @@ ghost use Rattle.dimacs_reader.specs.Steps.Words.{number_in};
 ghost use Rattle.dimacs_reader.specs.Steps.Machine.{AfterFormat, AfterVars, Clauses, Showing, Done};
 ghost use Rattle.dimacs_reader.specs.Steps.Machine.{stage_at, course_at, first_course, stage_of, failed};
 ghost use Rattle.dimacs_reader.specs.Steps.Machine.{word_stage, after_literal, show_stage, after_word};
-ghost use Rattle.dimacs_reader.specs.Steps.Machine.{comment_line, show_course, after_token, after_end};
+ghost use Rattle.dimacs_reader.specs.Steps.Machine.{comment_line, show_course, after_remark};
+ghost use Rattle.dimacs_reader.specs.Steps.Machine.{is_remark_line, after_token, after_end};
 ghost use Rattle.dimacs_reader.specs.Steps.Machine.{outcome_at, is_idle};
 
 use crate::partial::{ClauseCount, Partial};
@@ -102,12 +103,21 @@ impl Course {
         if self.is_idle() {
             return Ok(());
         }
+        if is_remark_line(self.line, word) {
+            return self.read_remark(word);
+        }
+        let first = matches!(self.line, LineKind::Fresh);
+        self.line = LineKind::Inside;
+        self.read_word(first, place, word)
+    }
+
+    /// After a token of a line that is a comment, or a show line whose words aren't all there yet. It is
+    /// apart, so that the path of a clause's tokens stays short.
+    #[inline(never)]
+    fn read_remark(&mut self, word: Word) -> Result<(), NoMemory>
+        ensures { OnOk result (self.new ≡ after_remark self.old.line self.old.stage word) }
+    {
         match self.line {
-            LineKind::Inside => self.read_word(false, place, word),
-            LineKind::Fresh if !word.is_remark() => {
-                self.line = LineKind::Inside;
-                self.read_word(true, place, word)
-            }
             LineKind::AfterCP if word.is_show() => self.begin_show(),
             line => {
                 self.line = comment_line(line, word);
@@ -205,6 +215,17 @@ impl Course {
             Phase::Done => Ok(partial.into_ended()),
             Phase::Failed(fault) => Err(fault),
         }
+    }
+}
+
+/// Whether the line begins as a comment may begin, with one word more.
+fn is_remark_line(line: LineKind, word: Word) -> bool
+    ensures { result ≡ is_remark_line line word }
+{
+    match line {
+        LineKind::Inside => false,
+        LineKind::Fresh => word.is_remark(),
+        LineKind::Comment | LineKind::AfterC | LineKind::AfterCP => true,
     }
 }
 
@@ -334,6 +355,7 @@ fn show_number(vars: u32, place: u64, word: Word) -> Result<u32, Fault>
 }
 
 /// After a token of a show line.
+#[inline(never)]
 fn show_phase(partial: &mut Partial, place: u64, word: Word) -> Result<Phase, NoMemory>
     ensures { IfOk result (λ phase. (n : ℕ) → stage_at phase n partial.new
         ≡ after_word false (Showing n partial.old) place word) }

@@ -158,14 +158,26 @@ comment_line Fresh w = if is_c w then AfterC else Comment
 comment_line AfterC w = if is_p w then AfterCP else Comment
 comment_line line w = Comment
 
+-- after one token more of such a line
+abbrev pub after_remark : LineKind → Stage → Word → Course
+after_remark AfterCP s w = if is_show_word w then show_course s else course_at Comment s
+after_remark line s w = course_at (comment_line line w) s
+
+-- whether the line begins as a comment may begin, with one token more
+abbrev pub is_remark_line : LineKind → Word → Bool
+is_remark_line Inside w = false
+is_remark_line Fresh w = is_remark w
+is_remark_line line w = true
+
+abbrev pub is_fresh : LineKind → Bool
+is_fresh Fresh = true
+is_fresh line = false
+
 -- after one token more of a line of this kind
 abbrev pub after_token_in : LineKind → Stage → ℕ → Word → Course
-after_token_in Fresh s place w =
-    if is_remark w then course_at (comment_line Fresh w) s else course_at Inside (after_word true s place w)
-after_token_in Comment s place w = course_at Comment s
-after_token_in AfterC s place w = course_at (comment_line AfterC w) s
-after_token_in AfterCP s place w = if is_show_word w then show_course s else course_at Comment s
-after_token_in Inside s place w = course_at Inside (after_word false s place w)
+after_token_in line s place w =
+    if is_remark_line line w then after_remark line s w
+    else course_at Inside (after_word (is_fresh line) s place w)
 
 abbrev pub after_token : Course → ℕ → Word → Course
 after_token c place w = if is_idle c then c else after_token_in c.line c.stage place w
