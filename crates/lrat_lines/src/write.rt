@@ -1,6 +1,6 @@
 ghost use Rattle.std.specs.Prelude.{◌≡◌, ◌++◌, All, OnOk, OnErr, IfErr};
 ghost use Rattle.bone_desk.specs.Told.{WritesOnly, Gave};
-ghost use Rattle.bone_desk.specs.Gives.{GaveFront, Owes};
+ghost use Rattle.bone_desk.specs.Gives.{GaveFront, Pushed};
 ghost use Rattle.lrat_lines.specs.Printed.{proof_text, IsPrintable};
 ghost use Rattle.lrat_lines.specs.Writings.{HasCause};
 ghost use Rattle.lrat_lines.specs.declared.write.ProofEnd.TheVariants.{Fault, Memory};
@@ -58,32 +58,33 @@ pub fn write_proof<D: Desk>(alloc: Global, desk: &mut D, proof: &Proof) -> Resul
     ensures only { WritesOnly Port.Proof (D.told desk.old) (D.told desk.new) }
     ensures cause { IfErr result (λ end. HasCause end (D.told desk.old) (D.told desk.new)) }
 {
-    let mut buffer = PortBuffer::new();
+    let mut buffer = PortBuffer::new(Port::Proof);
     push_lines(alloc, desk, &mut buffer, &proof.lines)?;
-    buffer.flush(desk, Port::Proof)?;
+    buffer.flush(desk)?;
     Ok(())
 }
 
-/// The lines, one behind another.
+/// The lines, one behind another, into a buffer of the Proof port.
 fn push_lines<D: Desk>(
     alloc: Global,
     desk: &mut D,
     buffer: &mut PortBuffer,
     lines: &[Line],
 ) -> Result<(), ProofEnd>
-    requires { All IsPrintable lines.now }
-    ensures owes { OnOk result (Owes Port.Proof buffer.new (buffer.old ++ proof_text lines.now)
+    requires printable { All IsPrintable lines.now }
+    requires port { buffer.old.port ≡ Port.Proof }
+    ensures ok { OnOk result (Pushed (proof_text lines.now) buffer.old buffer.new
         (D.told desk.old) (D.told desk.new)) }
-    ensures front { OnErr result (GaveFront Port.Proof (buffer.old ++ proof_text lines.now)
+    ensures front { OnErr result (GaveFront Port.Proof (buffer.old.bytes ++ proof_text lines.now)
         (D.told desk.old) (D.told desk.new)) }
-    ensures only { WritesOnly Port.Proof (D.told desk.old) (D.told desk.new) }
+    ensures only { OnErr result (WritesOnly Port.Proof (D.told desk.old) (D.told desk.new)) }
     ensures cause { IfErr result (λ end. HasCause end (D.told desk.old) (D.told desk.new)) }
 {
     let mut text = Vec::new(alloc);
     for line in lines {
         text.clear();
         print_line(line, &mut text)?;
-        buffer.push(desk, Port::Proof, &text)?;
+        buffer.push(desk, &text)?;
     }
     Ok(())
 }

@@ -1,11 +1,29 @@
 -- Lines on their way to the port.
-use Rattle.std.proofs.Common.{◌≡◌, ◌∙◌, ◌++◌, List, ℕ, ◌+◌, ap, take, drop}
+use Rattle.std.proofs.Common.{◌≡◌, ◌∙◌, ◌++◌, List, ℕ, ◌+◌, ap, take, drop, append_assoc}
 use Rattle.std.proofs.lemmas.Result.{err_from_is_err_and}
-use Rattle.bone_desk.proofs.Steps.{writes_more, front_same, same_none}
+use Rattle.bone_desk.specs.declared.desk.Port.{Port}
+use Rattle.bone_desk.specs.Told.{WritesOnly}
+use Rattle.bone_desk.specs.Gives.{GaveFront, CutOff}
+use Rattle.bone_desk.proofs.Steps.{front_same, same_none, front_longer}
+use Rattle.bone_desk.proofs.Pieces.{at_port, front_as, pushed_as, pushed_none, pushed_next, cut_as, cut_next, cut_before}
 use Rattle.lrat_lines.specs.Printed.{line_text, proof_text}
 use Rattle.lrat_lines.proofs.TextLines.{text_more, text_split, text_around}
-use Rattle.lrat_lines.proofs.Pieces.{owes_as, front_as, owes_next, front_next, front_before}
 use Rattle.lrat_lines.proofs.write.push_lines.Goals as goal
+
+pub loop-line-init : goal.loop-line-init
+loop-line-init g c = pushed_none c.args.buffer.now (g.D.Desk.told c.args.desk.now)
+
+pub loop-line-preserved : goal.loop-line-preserved
+loop-line-preserved g c =
+    let lines = c.args.lines.now in
+    let i = c.loop-line.line-index in
+    let line = c.line-item.result in
+    let piece = c.deref.result.now in
+    let so_far = proof_text (take i lines) in
+    let printed : piece ≡ line_text line =
+    c.deref.ensures.value ∙ c.in_ok-print_line.ensures.ok ∙ ap (λ (first : List ℕ). first ++ line_text line) c.clear.ensures.items in
+    pushed_as (ap (λ (text : List ℕ). so_far ++ text) printed ∙ text_more lines i line c.loop-line-test.true c.line-item.is)
+    (pushed_next so_far piece c.loop-line.invariant c.in_ok-push.ensures.ok)
 
 -- a line that was not printed: the port has a front of those before
 pub returns-in_err-print_line-clause-front : goal.returns-in_err-print_line-clause-front
@@ -15,9 +33,12 @@ returns-in_err-print_line-clause-front g c =
     let lines = c.args.lines.now in
     let i = c.loop-line.line-index in
     let so_far = proof_text (take i lines) in
-    let before = front_same c.loop-line.invariant.owes (same_none (g.D.Desk.told c.loop-line.desk)) in
-    rw p.1 (front_as (ap (λ (text : List ℕ). buffer ++ text) (text_split lines i))
-    (front_before buffer so_far (proof_text (drop i lines)) before))
+    let rest = proof_text (drop i lines) in
+    let after = g.D.Desk.told c.loop-line.desk in
+    let before = front_longer rest (front_same c.loop-line.invariant.owes (same_none after)) in
+    rw p.1 (at_port (λ (q : Port). GaveFront q (buffer.bytes ++ proof_text lines) (g.D.Desk.told c.args.desk.now) after)
+    c.requires.port
+    (front_as (append_assoc buffer.bytes so_far rest ∙ ap (λ (text : List ℕ). buffer.bytes ++ text) (text_split lines i)) before))
 
 pub returns-in_err-push-clause-front : goal.returns-in_err-push-clause-front
 returns-in_err-push-clause-front g c =
@@ -27,28 +48,20 @@ returns-in_err-push-clause-front g c =
     let i = c.loop-line.line-index in
     let line = c.line-item.result in
     let piece = c.deref.result.now in
+    let so_far = proof_text (take i lines) in
+    let rest = proof_text (drop (i + 1) lines) in
     let printed : piece ≡ line_text line =
     c.deref.ensures.value ∙ c.in_ok-print_line.ensures.ok ∙ ap (λ (first : List ℕ). first ++ line_text line) c.clear.ensures.items in
-    let so_far = proof_text (take i lines) in
-    let with_line = front_next buffer so_far piece c.loop-line.invariant.owes c.in_err-push.ensures.front in
-    let whole = front_before buffer (so_far ++ piece) (proof_text (drop (i + 1) lines)) with_line in
-    rw p.1 (front_as (ap (λ (text : List ℕ). buffer ++ text)
-    (ap (λ (text : List ℕ). (so_far ++ text) ++ proof_text (drop (i + 1) lines)) printed
-    ∙ text_around lines i line c.loop-line-test.true c.line-item.is)) whole)
+    let cut = cut_as (ap (λ (text : List ℕ). (so_far ++ text) ++ rest) printed
+    ∙ text_around lines i line c.loop-line-test.true c.line-item.is)
+    (cut_before (so_far ++ piece) rest (cut_next so_far piece c.loop-line.invariant c.in_err-push.ensures.err)) in
+    rw p.1 (at_port (λ (q : Port). GaveFront q (buffer.bytes ++ proof_text lines)
+    (g.D.Desk.told c.args.desk.now) (g.D.Desk.told c.push.new.desk)) c.requires.port cut.front)
 
-pub loop-line-preserved : goal.loop-line-preserved
-loop-line-preserved g c =
-    let buffer = c.args.buffer.now in
-    let lines = c.args.lines.now in
-    let i = c.loop-line.line-index in
-    let line = c.line-item.result in
-    let piece = c.deref.result.now in
-    let printed : piece ≡ line_text line =
-    c.deref.ensures.value ∙ c.in_ok-print_line.ensures.ok ∙ ap (λ (first : List ℕ). first ++ line_text line) c.clear.ensures.items in
-    let so_far = proof_text (take i lines) in
-    record {
-      owes = owes_as (ap (λ (text : List ℕ). buffer ++ text)
-          (ap (λ (text : List ℕ). so_far ++ text) printed ∙ text_more lines i line c.loop-line-test.true c.line-item.is))
-          (owes_next buffer so_far piece c.loop-line.invariant.owes c.in_ok-push.ensures.owes);
-      only = writes_more c.loop-line.invariant.only c.push.ensures.only;
-    }
+pub returns-in_err-push-clause-only : goal.returns-in_err-push-clause-only
+returns-in_err-push-clause-only g c =
+    let p = err_from_is_err_and c.from_residual-in_err-push.result c.from_residual-in_err-push.ensures.1 in
+    let so_far = proof_text (take c.loop-line.line-index c.args.lines.now) in
+    let cut = cut_next so_far c.deref.result.now c.loop-line.invariant c.in_err-push.ensures.err in
+    rw p.1 (at_port (λ (q : Port). WritesOnly q (g.D.Desk.told c.args.desk.now) (g.D.Desk.told c.push.new.desk))
+    c.requires.port cut.only)
