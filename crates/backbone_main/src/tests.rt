@@ -84,10 +84,7 @@ fn the_answer_names_shown_variables_alone(rt: HostRuntime) -> Result<(), Fail> {
             b"p cnf 3 3\nc p show 2 3 0\n1 0\n-1 2 0\n2 3 0\n",
             b"s SATISFIABLE\nb 2\nb 0\n",
         ),
-        (
-            b"p cnf 3 3\nc p show 0\n1 0\n-1 2 0\n2 3 0\n",
-            EMPTY_ANSWER,
-        ),
+        (b"p cnf 3 3\nc p show 0\n1 0\n-1 2 0\n2 3 0\n", EMPTY_ANSWER),
         // Before the header such a line is a comment.
         (
             b"c p show 2 3 0\np cnf 3 3\n1 0\n-1 2 0\n2 3 0\n",
@@ -121,7 +118,11 @@ fn the_text_of_the_given_name_is_read_and_no_other(rt: HostRuntime) -> Result<()
         desk.put("a", CHAIN)?;
         desk.put("b", b"p cnf 1 1\n0\n")?;
         desk.input = b"p cnf 0 0\n".to_vec(alloc)?;
-        assert_eq!(rt; alone(alloc, words.as_slice(), &mut desk), status, "{list:?}");
+        assert_eq!(rt;
+            alone(alloc, words.as_slice(), &mut desk),
+            status,
+            "{list:?}"
+        );
         assert_eq!(rt; desk.out_answer.as_slice(), answer, "{list:?}");
     }
     Ok(())

@@ -1,5 +1,7 @@
 //! What no clause says: which calls fail in memory, how short calls join, and that files work.
-use crate::{Desk, Failed, Feed, MemDesk, NamedDesk, Port, PortBuffer, QuietDesk, RealDesk, write_all};
+use crate::{
+    Desk, Failed, Feed, MemDesk, NamedDesk, Port, PortBuffer, QuietDesk, RealDesk, write_all,
+};
 use std::alloc::AllocError;
 use std::test::Fail;
 
