@@ -10,7 +10,8 @@ use Rattle.cnf_core.proofs.Lists.{Contains-cons_cases, Contains-nil}
 use Rattle.cnf_core.proofs.Truth.{value_of-with_value, value_of-with_value_other, true_literal_of_is_true}
 use Rattle.cnf_core.proofs.Flips.{flipped_model}
 use Rattle.model_check.specs.Flips.{flipped}
-use Rattle.flip_literals.specs.Critical.{MarksCritical, RestsOn}
+use Rattle.flip_literals.specs.Critical.{MarksCritical}
+use Rattle.flip_literals.specs.Steps.Supports.{RestsOn}
 
 -- one of the clauses rests on the variable's true literal alone
 pub record IsNeeded (a : Assignment) (v : ℕ) (cs : List Literals) : Type 0 where

@@ -4,7 +4,7 @@ use Rattle.std.proofs.lemmas.Bool.{both_ways}
 use Rattle.std.proofs.lemmas.List.Elements.{Contains-append_left, Contains-append_cases, Contains-push}
 use Rattle.cnf_core.specs.Literals.{Literal, Literals, Assignment, negated, is_true}
 use Rattle.cnf_core.proofs.Lists.{Contains-cons_cases, Contains-nil}
-use Rattle.flip_literals.specs.Critical.{RestsOn}
+use Rattle.flip_literals.specs.Steps.Supports.{RestsOn}
 
 -- no literal is true
 pub record HasNoTrue (a : Assignment) (c : Literals) : Type 0 where

@@ -1,1 +1,2 @@
 pub mod Critical
+pub mod Steps

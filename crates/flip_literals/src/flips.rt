@@ -1,7 +1,8 @@
 ghost use Rattle.std.specs.Prelude.{◌≡◌, length};
 ghost use Rattle.cnf_core.specs.Literals.{AreWithin};
 ghost use Rattle.cnf_core.specs.Formulas.{IsModel};
-ghost use Rattle.flip_literals.specs.Critical.{MarksCritical, IsSupport};
+ghost use Rattle.flip_literals.specs.Critical.{MarksCritical};
+ghost use Rattle.flip_literals.specs.Steps.Supports.{IsSupport};
 
 use crate::Marks;
 use cnf_core::{Formula, Lit, Values};

@@ -5,7 +5,8 @@ use Rattle.std.proofs.lemmas.List.Elements.{All-nil, All-append, All-push}
 use Rattle.cnf_core.specs.Literals.{Assignment}
 use Rattle.cnf_core.specs.Formulas.{Cnf, IsModel}
 use Rattle.model_store.specs.Steps.Packed.{words_for, unpacked, all_unpacked, AppendsValues}
-use Rattle.model_store.specs.Stores.{Store, store_of, with_model, with_models, IsBlock}
+use Rattle.model_store.specs.Stores.{Store, store_of, with_model, with_models}
+use Rattle.model_store.specs.Steps.Blocks.{IsBlock}
 use Rattle.model_store.proofs.Blocks.{length-all_unpacked, all_unpacked-zero, all_unpacked-more, all_unpacked-append}
 
 -- the empty block

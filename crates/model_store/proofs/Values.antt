@@ -6,7 +6,8 @@ use Rattle.std.proofs.lemmas.Nat.Bits.{shr_and_one}
 use Rattle.cnf_core.specs.Literals.{Assignment, value_of}
 use Rattle.cnf_core.specs.Formulas.{Cnf}
 use Rattle.model_store.specs.Steps.Packed.{words_for, all_unpacked}
-use Rattle.model_store.specs.Stores.{Store, store_of, model_at, IsBlock}
+use Rattle.model_store.specs.Stores.{Store, store_of, model_at}
+use Rattle.model_store.specs.Steps.Blocks.{IsBlock}
 use Rattle.model_store.proofs.Words.{value_of-unpacked, bit_value-drop}
 use Rattle.model_store.proofs.Blocks.{all_unpacked_at, place_within}
 use Rattle.model_store.proofs.Grown.{count_of_view, formula_of_view}

@@ -1,8 +1,7 @@
 -- The models of a store, and the formula that they are models of.
-use Rattle.std.specs.Prelude.{◌≡◌, ℕ, ◌*◌, ◌^◌, ◌≤◌, List, [], ◌∷◌, ◌++◌, length, All, slice_index_or}
+use Rattle.std.specs.Prelude.{ℕ, ◌^◌, ◌≤◌, List, [], ◌∷◌, ◌++◌, length, All, slice_index_or}
 use Rattle.cnf_core.specs.Literals.{Assignment}
 use Rattle.cnf_core.specs.Formulas.{Cnf, IsModel}
-use Rattle.model_store.specs.Steps.Packed.{words_for, all_unpacked}
 
 -- a formula, and models of it in the order in which they came
 pub record Store : Type 0 where
@@ -33,8 +32,3 @@ model_at s place = slice_index_or s.models place []
 pub record HoldsModels (s : Store) : Type 0 where
   pub each : All (IsModel s.formula) s.models
   pub limit : length s.models ≤ 2 ^ 26
-
--- a block of just the words of so many models, all of them models of the formula
-pub record IsBlock (words : List ℕ) (F : Cnf) (count : ℕ) : Type 0 where
-  pub whole : length words ≡ words_for F.vars * count
-  pub holds : HoldsModels (store_of F (all_unpacked words F.vars count))

@@ -28,7 +28,8 @@ pub struct ModelStore<'f> {
 
 impl<'f> Model for ModelStore<'f> {
     ghost use Rattle.model_store.specs.Steps.Packed.{all_unpacked};
-    ghost use Rattle.model_store.specs.Stores.{Store, store_of, IsBlock};
+    ghost use Rattle.model_store.specs.Stores.{Store, store_of};
+    ghost use Rattle.model_store.specs.Steps.Blocks.{IsBlock};
 
     ghost Value = { Store };
 

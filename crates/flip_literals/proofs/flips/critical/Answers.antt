@@ -3,7 +3,7 @@ use Rattle.std.proofs.Common.{◌≡◌, ◌+◌, ◌∷◌, ◌++◌, [], List,
 use Rattle.std.proofs.lemmas.List.Elements.{All-contains}
 use Rattle.std.proofs.lemmas.List.{take_more, take_all}
 use Rattle.cnf_core.specs.Literals.{Literals, IsWithin, AreWithin}
-use Rattle.flip_literals.specs.Critical.{RestsOn, IsSupport}
+use Rattle.flip_literals.specs.Steps.Supports.{RestsOn, IsSupport}
 use Rattle.flip_literals.proofs.Marked.{marked-none, marked-some, critical_marked}
 use Rattle.flip_literals.proofs.flips.critical.Goals as goal
 use Rattle.flip_literals.proofs.flips.critical.Goals.{in-Some, in_default}

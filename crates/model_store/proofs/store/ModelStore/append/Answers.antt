@@ -2,7 +2,8 @@
 use Rattle.std.proofs.Common.{◌≡◌, ◌+◌, ◌++◌, List, ℕ, sym, ap, ◌∙◌, subst, arith, rules}
 use Rattle.cnf_core.specs.Formulas.{Cnf}
 use Rattle.model_store.specs.Steps.Packed.{all_unpacked}
-use Rattle.model_store.specs.Stores.{store_of, IsBlock}
+use Rattle.model_store.specs.Stores.{store_of}
+use Rattle.model_store.specs.Steps.Blocks.{IsBlock}
 use Rattle.model_store.proofs.Grown.{block-append, count_of_view, formula_of_view, store-append}
 use Rattle.model_store.proofs.store.ModelStore.append.Goals as goal
 

@@ -1,5 +1,6 @@
 use Rattle.std.proofs.Common.{sym, ap, subst}
-use Rattle.model_store.specs.Stores.{store_of, IsBlock}
+use Rattle.model_store.specs.Stores.{store_of}
+use Rattle.model_store.specs.Steps.Blocks.{IsBlock}
 use Rattle.model_store.proofs.Blocks.{all_unpacked-zero}
 use Rattle.model_store.proofs.Grown.{block-empty}
 use Rattle.model_store.proofs.store.ModelStore.new.Goals as goal
