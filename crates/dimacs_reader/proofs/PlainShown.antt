@@ -1,6 +1,6 @@
 -- The show line of a plain text, and what is read of it.
-use Rattle.std.proofs.Common.{◌≡◌, ℕ, ◌<◌, ◌≤◌, ◌^◌, ◌+◌, ◌-◌, ◌==◌, true, false, List, [], ◌∷◌, ◌++◌, length, replicate}
-use Rattle.std.proofs.Common.{suc, Option, Some, None, Ok, All, refl, sym, ap, ◌∙◌, arith, append_assoc, append-nil, length-append}
+use Rattle.std.proofs.Common.{◌≡◌, ℕ, ◌<◌, ◌≤◌, ◌^◌, ◌+◌, ◌-◌, true, false, List, [], ◌∷◌, ◌++◌, length, replicate}
+use Rattle.std.proofs.Common.{suc, Option, Some, None, Ok, All, refl, sym, ap, ◌∙◌, arith, append_assoc, length-append}
 use Rattle.std.specs.Prelude.{map, codes, decimal, flat_map, slice_set}
 use Rattle.std.proofs.Math.Seq.{set-append_seam}
 use Rattle.std.proofs.lemmas.Bool.{ne_eqb, le-ltb}
@@ -10,7 +10,7 @@ use Rattle.cnf_core.specs.Formulas.{Cnf, empty_formula, literal_count, marks_of}
 use Rattle.cnf_core.specs.Spelling.{literal_text, number_of_digits}
 use Rattle.cnf_core.proofs.Numerals.{number_of_digits-decimal}
 use Rattle.dimacs_reader.specs.Pieces.{Piece, Line, is_line_feed, is_blank, line_of}
-use Rattle.dimacs_reader.specs.Reading.{◌>>=◌, is_show, show_number, show_end, show_tokens, restricting, showing_also, Partial}
+use Rattle.dimacs_reader.specs.Reading.{◌>>=◌, show_number, show_tokens, restricting, Partial}
 use Rattle.dimacs_reader.specs.Reading.{no_clauses, clause_lines}
 use Rattle.dimacs_reader.specs.PlainText.{clause_line, marked_from, show_line}
 use Rattle.dimacs_reader.proofs.PlainPieces.{NonePass, none_pass, NonePass-append, piece, pieces_cut}
