@@ -124,32 +124,7 @@ fn literals_of(alloc: Global, values: &Values) -> Result<Vec<Lit>, NoMemory>
 #[cfg(test)]
 mod tests {
     use super::*;
-    use cnf_core::Clause;
-    use std::process::Abort;
     use std::test::Fail;
-
-    /// The formula of the clauses that these numbers write, each with a 0 at its end.
-    fn formula_of<R: Abort + AllocGlobal>(
-        rt: &R,
-        vars: u32,
-        numbers: &[i32],
-    ) -> Result<Formula, Fail>
-        requires { vars ≤ MOST_VARS }
-    {
-        let mut formula = Formula::new(rt.alloc(), vars);
-        let mut lits = Vec::new(rt.alloc());
-        for number in numbers {
-            match Lit::of(*number) {
-                Some(lit) => lits.push(lit)?,
-                None => {
-                    assert!(rt; formula.room(&lits));
-                    formula.push(Clause { lits })?;
-                    lits = Vec::new(rt.alloc());
-                }
-            }
-        }
-        Ok(formula)
-    }
 
     #[test]
     fn small_formulas_have_their_known_backbones(rt: HostRuntime) -> Result<(), Fail> {
@@ -177,8 +152,7 @@ mod tests {
                 None,
             ),
         ] {
-            assert!(rt; vars <= MOST_VARS);
-            let formula = formula_of(&rt, vars, clauses)?;
+            let formula = Formula::of_numbers(rt.alloc(), vars, clauses)?;
             assert!(rt; formula.vars() <= MOST_VARS);
             match (solve(rt.alloc(), &formula)?, expected) {
                 (Some(lits), Some(numbers)) => {
