@@ -82,8 +82,7 @@ pub read_mark : (l : Literals) (s : List ℕ) (m : List Mark) (a : Entries) (r :
 read_mark l s m a r x k here read =
     let within : r < length m = omega (arith, length_is l s m a k) in
     let is : x ≡ mark_at m r = get_or_read m r x within read no_mark in
-    let entry : laid_entry l s m r ≡ entry_at a r = sym (entry_is l s m a r k here) in
-    (
+    let entry : laid_entry l s m r ≡ entry_at a r = sym (entry_is l s m a r k here) in (
       ap (λ y. y.id) is ∙ ap (λ e. e.id) entry,
       ap (λ y. y.learnt) is ∙ ap (λ e. e.learnt) entry,
       ap (λ y. y.live) is ∙ ap (λ e. e.live) entry,

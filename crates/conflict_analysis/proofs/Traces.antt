@@ -389,8 +389,7 @@ visited_as_decision a t place w mid new l can made because is new_is =
     let met : is_seen mid (assigned_at t.entries place).lit.var ≡ true =
     ap (λ (v : WalkView). is_seen v (assigned_at t.entries place).lit.var) made ∙ can.met in
     let counted = counted_before t.entries place w mid can.counted can.met made in
-    let whole = new_is ∙ ap (λ (m : Literal). record mid { lits = mid.lits ++ m ∷ [] }) is in
-    (
+    let whole = new_is ∙ ap (λ (m : Literal). record mid { lits = mid.lits ++ m ∷ [] }) is in (
       visited_counted a t.entries place w mid new made
           (subst (λ (v : WalkView). IsVisited a t.entries place mid v) (sym whole)
           (visited_decision a t place mid can.can_trace.trail can.within met because)),
@@ -403,8 +402,7 @@ pub visited_as_unit : (a : Entries) (t : TrailState) (place id : ℕ) (w mid new
 visited_as_unit a t place id w mid new can made because new_is =
     let met : is_seen mid (assigned_at t.entries place).lit.var ≡ true =
     ap (λ (v : WalkView). is_seen v (assigned_at t.entries place).lit.var) made ∙ can.met in
-    let counted = counted_before t.entries place w mid can.counted can.met made in
-    (
+    let counted = counted_before t.entries place w mid can.counted can.met made in (
       visited_counted a t.entries place w mid new made
           (subst (λ (v : WalkView). IsVisited a t.entries place mid v) (sym new_is)
           (visited_unit a t place id mid can.can_trace.trail can.can_trace.reasons can.within met because)),
@@ -416,8 +414,7 @@ pub visited_as_clause : (a : Entries) (t : TrailState) (place r : ℕ) (w mid ne
     → IsMarked a t r mid new → IsVisited a t.entries place w new × IsCounted t.entries place new
 visited_as_clause a t place r w mid new can made because marks =
     let met : is_seen mid (assigned_at t.entries place).lit.var ≡ true =
-    ap (λ (v : WalkView). is_seen v (assigned_at t.entries place).lit.var) made ∙ can.met in
-    (
+    ap (λ (v : WalkView). is_seen v (assigned_at t.entries place).lit.var) made ∙ can.met in (
       visited_counted a t.entries place w mid new made
           (visited_clause a t place r mid new can.can_trace.trail can.can_trace.reasons can.within met because marks),
       reason_counted a t w mid new place r can made because marks,

@@ -501,7 +501,13 @@ impl Walk {
     }
 
     /// Adds the ids of the units that make the literals of a clause false, but for this one.
-    fn add_units(&mut self, arena: &Arena, trail: &Trail, r: ClauseRef, own: Lit) -> Result<(), NoMemory>
+    fn add_units(
+        &mut self,
+        arena: &Arena,
+        trail: &Trail,
+        r: ClauseRef,
+        own: Lit,
+    ) -> Result<(), NoMemory>
         requires trail { IsTrail trail.now }
         requires live { IsLive arena.now r }
         requires own { Contains (entry_at arena.now r).lits own }

@@ -1,7 +1,7 @@
-ghost use Rattle.std.specs.Prelude.{◌≡◌, ◌≢◌, ◌+◌, ◌<◌, ◌≤◌, ℕ, length, All, Contains, IfOk, IfSome, OnOk, slice_index_or};
-ghost use Rattle.cnf_core.specs.Literals.{Literal};
-ghost use Rattle.clause_arena.specs.Entries.{IsLive, entry_at, no_literal};
-ghost use Rattle.trail_core.specs.Trails.{assigned_at, HasVariable, IsTrail, IsFirstFree};
+ghost use Rattle.std.specs.Prelude.{◌≡◌, ◌+◌, ◌<◌, ◌≤◌, ℕ, length, All, IfOk, IfSome, OnOk, slice_index_or};
+ghost use Rattle.cnf_core.specs.Literals.{IsWithin};
+ghost use Rattle.clause_arena.specs.Entries.{no_literal};
+ghost use Rattle.trail_core.specs.Trails.{assigned_at, IsFree, HasVariable, IsTrail};
 ghost use Rattle.watch_lists.specs.Clauses.{AreClean, IsFalsified};
 ghost use Rattle.watch_lists.specs.Propagating.{StepSays};
 ghost use Rattle.conflict_analysis.specs.Reasons.{IsUnit};

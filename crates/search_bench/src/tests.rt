@@ -36,7 +36,11 @@ fn two_clauses(alloc: Global) -> Result<Formula, NoMemory>
 {
     let mut formula = Formula::new(alloc, 3);
     for positive in [true, false] {
-        let lits = vec![in alloc; Lit::new(1, false), Lit::new(2, false), Lit::new(3, positive)]?;
+        let lits = vec![in alloc;
+            Lit::new(1, false),
+            Lit::new(2, false),
+            Lit::new(3, positive),
+        ]?;
         if !formula.room(&lits) {
             return Err(NoMemory);
         }
@@ -83,7 +87,14 @@ fn the_checker_takes_what_a_conflict_below_two_decisions_teaches(
     search.learn(conflict)?;
     assert_eq!(rt; search.trail().values(), [1i8, -1, 0].as_slice());
     assert_eq!(rt; search.trail().level(), 1);
-    assert_eq!(rt; (search.counts().learnt, search.judge().taken(), search.judge().refused()), (2, 1, 0));
+    assert_eq!(rt;
+        (
+            search.counts().learnt,
+            search.judge().taken(),
+            search.judge().refused()
+        ),
+        (2, 1, 0)
+    );
     Ok(())
 }
 

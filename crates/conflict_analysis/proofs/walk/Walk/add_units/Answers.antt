@@ -24,12 +24,12 @@ loop-lit-preserved c =
     let is = c.lit-item.is ∙ ap (λ (d : Literals). get_or d i x) c.lits-lit-items.ensures in
     elim c.if-ne.branch [
       | then-ne+in_ok-add_hint w ↦ (let other = other_unless x c.args.own c.ne.result c.ne.ensures w.if-ne.true in record {
-          size = ap (λ (v : WalkView). length v.stamps) w.self-is ∙ w.in_ok-add_hint.ensures.size ∙ was.size;
-          resolved = front_more c.args.trail.now clause c.args.own i x w.unit_id.result c.args.self.now.hints c.loop-lit.self.hints
-              c.if-ne.self.hints c.requires.trail lt is other
-              (c.requires.units x (element_is_member clause i x lt is) other) w.unit_id.ensures
-              (ap (λ (v : WalkView). v.hints) (w.self-is ∙ w.in_ok-add_hint.ensures.added)) was.resolved;
-        })
+        size = ap (λ (v : WalkView). length v.stamps) w.self-is ∙ w.in_ok-add_hint.ensures.size ∙ was.size;
+        resolved = front_more c.args.trail.now clause c.args.own i x w.unit_id.result c.args.self.now.hints c.loop-lit.self.hints
+            c.if-ne.self.hints c.requires.trail lt is other
+            (c.requires.units x (element_is_member clause i x lt is) other) w.unit_id.ensures
+            (ap (λ (v : WalkView). v.hints) (w.self-is ∙ w.in_ok-add_hint.ensures.added)) was.resolved;
+      })
       | else-ne w ↦
           subst (λ (v : WalkView). record {
             size : length v.stamps ≡ length c.args.self.now.stamps;

@@ -10,8 +10,11 @@ use Rattle.conflict_analysis.proofs.walk.Walk.visit.Goals as goal
 
 pub count_down-requires : goal.count_down-requires
 count_down-requires c =
-    omega (arith, c.requires.counted,
-    count_open (is_met c.args.trail.now.entries (is_seen c.args.self.now)) c.args.place c.requires.met)
+    omega (
+      arith,
+      c.requires.counted,
+      count_open (is_met c.args.trail.now.entries (is_seen c.args.self.now)) c.args.place c.requires.met,
+    )
 
 pub mark_clause-requires : goal.mark_clause-requires
 mark_clause-requires c =
