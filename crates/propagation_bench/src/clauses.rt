@@ -2,19 +2,10 @@ ghost use Rattle.std.specs.Prelude.{◌≢◌, ℕ, ◌<◌, ◌≤◌, ◌^◌,
 ghost use Rattle.cnf_core.specs.Literals.{IsWithin};
 ghost use Rattle.watch_lists.specs.Clauses.{AreClean};
 
-use crate::numbers::Numbers;
 use clause_arena::Arena;
 use cnf_core::{Lit, NoMemory};
+use samples::Draws;
 use std::alloc::Global;
-
-/// A random literal of the variables 1 to so many.
-pub fn literal(vars: u32, numbers: &mut Numbers) -> Lit
-    requires { (0 < vars) × (vars ≤ 2 ^ 20) }
-    ensures { IsWithin vars result }
-{
-    let var = 1 + numbers.next() % vars;
-    Lit::new(var, numbers.next() % 2 == 0)
-}
 
 /// Random clauses: of so many draws each, those of three literals and then those of two. Draws with a
 /// variable twice are left out.
@@ -23,21 +14,21 @@ pub fn random_clauses(
     vars: u32,
     threes: u32,
     twos: u32,
-    numbers: &mut Numbers,
+    draws: &mut Draws,
 ) -> Result<Arena, NoMemory>
     requires { (0 < vars) × (vars ≤ 2 ^ 20) }
     ensures { IfOk result (λ a. AreClean vars a) }
 {
     let mut arena = Arena::new(alloc);
     for _draw in 0..threes {
-        let first = literal(vars, numbers);
-        let second = literal(vars, numbers);
-        let third = literal(vars, numbers);
+        let first = draws.literal(vars);
+        let second = draws.literal(vars);
+        let third = draws.literal(vars);
         add_three(&mut arena, first, second, third)?;
     }
     for _draw in 0..twos {
-        let first = literal(vars, numbers);
-        let second = literal(vars, numbers);
+        let first = draws.literal(vars);
+        let second = draws.literal(vars);
         add_two(&mut arena, first, second)?;
     }
     Ok(arena)

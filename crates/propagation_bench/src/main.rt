@@ -8,7 +8,6 @@
 #![tactic(auto)]
 
 mod clauses;
-mod numbers;
 mod rounds;
 
 use rounds::run;

@@ -3,10 +3,10 @@ ghost use Rattle.cnf_core.specs.Literals.{IsWithin};
 ghost use Rattle.trail_core.specs.Trails.{IsFree};
 ghost use Rattle.watch_lists.specs.Watching.{IsReady};
 
-use crate::clauses::{literal, random_clauses};
-use crate::numbers::Numbers;
+use crate::clauses::random_clauses;
 use clause_arena::Arena;
 use cnf_core::{Lit, MAX_VARS, NoMemory};
+use samples::Draws;
 use std::alloc::Global;
 use trail_core::Trail;
 use watch_lists::{Step, Watches};
@@ -30,8 +30,8 @@ pub fn run(
     rounds: u32,
 ) -> Result<Counts, NoMemory> {
     let vars = vars.clamp(1, MAX_VARS);
-    let mut numbers = Numbers::new();
-    let mut arena = random_clauses(alloc, vars, threes, twos, &mut numbers)?;
+    let mut draws = Draws::new(0);
+    let mut arena = random_clauses(alloc, vars, threes, twos, &mut draws)?;
     let mut watches = Watches::new(alloc, vars)?;
     watches.rebuild(&arena)?;
     let mut trail = Trail::new(alloc, vars)?;
@@ -46,7 +46,7 @@ pub fn run(
             &mut watches,
             &mut arena,
             &mut trail,
-            &mut numbers,
+            &mut draws,
             &mut counts,
         )?;
         counts.assigned = counts.assigned.saturating_add(u64::from(trail.len()));
@@ -60,7 +60,7 @@ fn descend(
     watches: &mut Watches,
     arena: &mut Arena,
     trail: &mut Trail,
-    numbers: &mut Numbers,
+    draws: &mut Draws,
     counts: &mut Counts,
 ) -> Result<(), NoMemory>
     requires ready { IsReady arena.old watches.old trail.old }
@@ -69,7 +69,7 @@ fn descend(
     ensures quiet { OnOk result ((0 < trail.new.level) ⊎ (trail.new.gone ≡ length trail.new.entries)) }
 {
     for _decision in 0..trail.vars() {
-        let Some(lit) = free_literal(trail, numbers) else {
+        let Some(lit) = free_literal(trail, draws) else {
             return Ok(());
         };
         trail.decide(lit);
@@ -87,15 +87,15 @@ fn descend(
 }
 
 /// A literal without value: a random one, or after a few that have one the first, if there is any.
-fn free_literal(trail: &Trail, numbers: &mut Numbers) -> Option<Lit>
+fn free_literal(trail: &Trail, draws: &mut Draws) -> Option<Lit>
     ensures { IfSome result (λ l. IsWithin trail.now.vars l × IsFree trail.now.entries l.var) }
 {
     let vars = trail.vars();
     if vars == 0 {
         return None;
     }
-    for _draw in 0..DRAWS {
-        let lit = literal(vars, numbers);
+    for _try in 0..TRIES {
+        let lit = draws.literal(vars);
         match trail.value(lit) {
             None => return Some(lit),
             Some(_) => {}
@@ -106,4 +106,4 @@ fn free_literal(trail: &Trail, numbers: &mut Numbers) -> Option<Lit>
 }
 
 /// How many random literals are tried.
-const DRAWS: u32 = 8;
+const TRIES: u32 = 8;

@@ -3,46 +3,8 @@ ghost use Rattle.cnf_core.specs.Literals.{AreWithin};
 ghost use Rattle.search_bench.specs.Plain.{IsPlain};
 
 use cnf_core::{Clause, Formula, Lit, MAX_VARS, NoMemory};
+use samples::Draws;
 use std::alloc::Global;
-
-/// Numbers that look random, the same at every run: a multiplicative congruential generator of 64 bits
-/// whose upper half is given.
-#[derive(Drop)]
-struct Numbers {
-    state: u64,
-}
-
-impl Numbers {
-    /// The generator of this number. Its state is odd.
-    fn new(pick: u32) -> Numbers {
-        let odd = 2 * u64::from(pick) + 1;
-        Numbers {
-            state: odd.wrapping_mul(0x9e37_79b9_7f4a_7c15),
-        }
-    }
-
-    /// The next number.
-    fn next(&mut self) -> u32 {
-        self.state = self.state.wrapping_mul(0xd134_2543_de82_ef95);
-        (self.state >> 32) as u32
-    }
-
-    /// The next number, taken below a bound.
-    fn below(&mut self, bound: u32) -> u32
-        requires { 0 < bound }
-        ensures { result < bound }
-    {
-        self.next() % bound
-    }
-
-    /// The literal of a variable, with a random sign.
-    fn literal(&mut self, var: u32) -> Lit
-        requires { (0 < var) × (var ≤ 2 ^ 20) }
-        ensures { result.var ≡ var }
-    {
-        Lit::new(var, self.next() % 2 == 0)
-    }
-}
 
 /// A random formula of clauses of three literals. There are three variables at least, and fewer clauses
 /// where the limits of a formula leave no room.
@@ -55,10 +17,10 @@ pub fn random_formula(
     ensures { IfOk result (λ F. All IsPlain F.clauses) }
 {
     let vars = vars.clamp(3, MAX_VARS);
-    let mut numbers = Numbers::new(pick);
+    let mut draws = Draws::new(pick);
     let mut formula = Formula::new(alloc, vars);
     for _clause in 0..clauses {
-        let lits = three(alloc, vars, &mut numbers)?;
+        let lits = three(alloc, vars, &mut draws)?;
         if !formula.room(&lits) {
             break;
         }
@@ -68,20 +30,28 @@ pub fn random_formula(
 }
 
 /// Three literals of different variables.
-fn three(alloc: Global, vars: u32, numbers: &mut Numbers) -> Result<Vec<Lit>, NoMemory>
+fn three(alloc: Global, vars: u32, draws: &mut Draws) -> Result<Vec<Lit>, NoMemory>
     requires { (3 ≤ vars) × (vars ≤ 2 ^ 20) }
     ensures { IfOk result (λ c. IsPlain c.items) }
 {
-    let first = numbers.below(vars);
-    let second = skip(numbers.below(vars - 1), first);
-    let third = skip(numbers.below(vars - 2), first.min(second));
+    let first = draws.below(vars);
+    let second = skip(draws.below(vars - 1), first);
+    let third = skip(draws.below(vars - 2), first.min(second));
     let third = skip(third, first.max(second));
     let lits = vec![in alloc;
-        numbers.literal(first + 1),
-        numbers.literal(second + 1),
-        numbers.literal(third + 1),
+        literal(draws, first + 1),
+        literal(draws, second + 1),
+        literal(draws, third + 1),
     ]?;
     Ok(lits)
+}
+
+/// The literal of a variable, with a drawn sign.
+fn literal(draws: &mut Draws, var: u32) -> Lit
+    requires { (0 < var) × (var ≤ 2 ^ 20) }
+    ensures { result.var ≡ var }
+{
+    Lit::new(var, draws.next() % 2 == 0)
 }
 
 /// The number, or from a taken one on the next.
