@@ -12,7 +12,8 @@ use Rattle.lrat_lines.specs.Sets.{IsSubset}
 use Rattle.lrat_log.specs.declared.kind.Kind.{Kind}
 use Rattle.lrat_log.specs.declared.kind.Kind.TheVariants.{Learnt, Unit as UnitKind, Core, Empty, Import}
 use Rattle.lrat_log.specs.Entries.{Entry, no_entry, is_learnt, is_import}
-use Rattle.lrat_log.specs.Fresh.{is_learnt_in, learnt_in, epoch_start, IsPeer}
+use Rattle.cnf_core.specs.Epochs.{epoch_start}
+use Rattle.lrat_log.specs.Fresh.{is_learnt_in, learnt_in, IsPeer}
 use Rattle.lrat_log.specs.Kept.{IsNext, EachNext}
 use Rattle.lrat_log.specs.Laws.{IsProper}
 use Rattle.lrat_lines.specs.Prefixes.{EachAfter}

@@ -18,7 +18,8 @@ use Rattle.lrat_lines.specs.Tight.{IsTight, IsTightFrom, AddsAt, StandsIn}
 use Rattle.lrat_lines.proofs.LiteralSets.{has_of_Contains}
 use Rattle.lrat_lines.specs.Sets.{IsSubset}
 use Rattle.lrat_log.specs.Entries.{Recorded, empty_log, known_after, with_new_query}
-use Rattle.lrat_log.specs.Fresh.{HasNoComplements, learnt_in, epoch_start, IsPeer, IsFresh}
+use Rattle.cnf_core.specs.Epochs.{epoch_start}
+use Rattle.lrat_log.specs.Fresh.{HasNoComplements, learnt_in, IsPeer, IsFresh}
 use Rattle.lrat_lines.specs.Tidy.{IsHint}
 use Rattle.lrat_log.specs.Examples.{refuted, by_first_two, only_one, not_two_or_three, with_core, EpochsAreWorked, LogIsWorked}
 

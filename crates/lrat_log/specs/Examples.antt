@@ -7,7 +7,8 @@ use Rattle.lrat_lines.specs.Examples.{positive, negative}
 use Rattle.lrat_lines.specs.Tight.{IsTight}
 use Rattle.lrat_log.specs.declared.kind.Kind.TheVariants.{Learnt, Unit as UnitKind, Core, Empty}
 use Rattle.lrat_log.specs.Entries.{Recorded, empty_log, known_after, with_shown, with_import, with_new_query}
-use Rattle.lrat_log.specs.Fresh.{epoch_start, IsPeer, IsFresh}
+use Rattle.cnf_core.specs.Epochs.{epoch_start}
+use Rattle.lrat_log.specs.Fresh.{IsPeer, IsFresh}
 use Rattle.lrat_log.specs.Kept.{IsShown}
 
 abbrev pub refuted : Cnf

@@ -1,8 +1,9 @@
 -- Which learnt clauses are new: no clause of the formula, and none that was learnt before in the same epoch of the
 -- query, is a part of them.
-use Rattle.std.specs.Prelude.{ℕ, suc, ◌-◌, ◌*◌, ◌^◌, ◌<◌, ◌≤◌, ◌==◌, Bool, ◌&&◌, List, length, drop, map, filter, Contains}
+use Rattle.std.specs.Prelude.{ℕ, suc, ◌<◌, ◌≤◌, ◌==◌, Bool, ◌&&◌, List, length, drop, map, filter, Contains}
 use Rattle.cnf_core.specs.Literals.{Literal, Literals, negated}
 use Rattle.cnf_core.specs.Formulas.{Cnf}
+use Rattle.cnf_core.specs.Epochs.{epoch_start}
 use Rattle.lrat_lines.specs.Sets.{IsSubset}
 use Rattle.lrat_log.specs.Entries.{Entry, is_learnt}
 
@@ -17,11 +18,6 @@ is_learnt_in query e = is_learnt e.kind && (e.query == query)
 -- the clauses that were learnt in the query, in order
 abbrev pub learnt_in : List Entry → ℕ → List Literals
 learnt_in es query = map (λ e. e.literals) (filter (is_learnt_in query) es)
-
--- a query is cut into epochs, in which 1,000, 2,000, 4,000 and so on clauses are learnt: so many were learnt in the
--- query before an epoch, counted from 0
-abbrev pub epoch_start : ℕ → ℕ
-epoch_start epoch = 1000 * (2 ^ epoch - 1)
 
 -- where these clauses were learnt in a query so far, the next one is compared with this one: it was learnt in the
 -- same epoch

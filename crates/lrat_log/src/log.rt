@@ -1,4 +1,4 @@
-ghost use Rattle.std.specs.Prelude.{◌≡◌, ◌+◌, ◌<◌, ◌≤◌, [], ◌∷◌, if◌then◌else◌, length, All, IfOk, OnOk, OnErr, slice_index_or};
+ghost use Rattle.std.specs.Prelude.{◌≡◌, ◌+◌, ◌<◌, ◌≤◌, [], ◌∷◌, ◌++◌, if◌then◌else◌, length, All, IfOk, OnOk, OnErr, slice_index_or};
 ghost use Rattle.std.specs.Vec.{vec_len};
 ghost use Rattle.cnf_core.specs.Literals.{AreWithin};
 ghost use Rattle.cnf_core.specs.Formulas.{Entails};
@@ -259,6 +259,28 @@ impl<'f> Log<'f> {
         ensures { result ≡ hint_of self.now i k }
     {
         self.hints[self.lines[i as usize].hints.start + k as usize]
+    }
+
+    /// Appends the literals of an entry to a list, in one pass. Without memory for them the list stays as it was.
+    pub fn append_lits(&self, i: u64, lits: &mut Vec<Lit>) -> Result<(), NoMemory>
+        requires { i < length self.now.entries }
+        ensures ok { OnOk result (lits.new.items ≡ lits.old.items ++ (entry_at self.now i).literals) }
+        ensures err { OnErr result (lits.new.items ≡ lits.old.items) }
+    {
+        let part = self.lines[i as usize].lits;
+        lits.extend_from_slice(&self.lits[part.start..part.end])?;
+        Ok(())
+    }
+
+    /// Appends the hints of an entry to a list, in one pass. Without memory for them the list stays as it was.
+    pub fn append_hints(&self, i: u64, hints: &mut Vec<u64>) -> Result<(), NoMemory>
+        requires { i < length self.now.entries }
+        ensures ok { OnOk result (hints.new.items ≡ hints.old.items ++ (entry_at self.now i).hints) }
+        ensures err { OnErr result (hints.new.items ≡ hints.old.items) }
+    {
+        let part = self.lines[i as usize].hints;
+        hints.extend_from_slice(&self.hints[part.start..part.end])?;
+        Ok(())
     }
 
     /// The clock that an entry was written at.

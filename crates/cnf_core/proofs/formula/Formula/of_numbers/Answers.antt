@@ -25,7 +25,8 @@ loop-place-preserved c =
     let here = c.loop-place-test.true in
     elim c.match-branch-2.branch [
       | in-Some+in_ok-push-in-Some w ↦
-          let writes = subst (λ (found : Option Literal). Writes found vars (get_or numbers place (pos 0))) w.in-Some.is c.in_ok-lit.ensures in
+          let Says : Option Literal → Type 0 = λ found. Writes found vars (get_or numbers place (pos 0)) in
+          let writes = subst Says w.in-Some.is c.in_ok-lit.ensures in
           rw (w.formula-is, w.lits-is, w.in_ok-push-in-Some.ensures.items)
           (gathering_literal vars numbers place formula lits w.in-Some.lit so_far here writes.0 writes.1)
       | in-None+in_ok-push-in-None w ↦
