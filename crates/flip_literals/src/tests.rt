@@ -40,46 +40,28 @@ fn shared<T: Send + Sync>(value: &T) -> &T {
     value
 }
 
+/// Models of formulas, with the variables that they can't do without.
+const ROWS: [(&[i32], &[bool], &[bool]); 8] = [
+    (
+        &[
+            1, 2, 3, 4, 0, 1, 2, 3, -4, 0, 1, 2, -3, 4, 0, 1, 2, -3, -4, 0, 1, -2, 3, 4, 0, 1, -2,
+            3, -4, 0, 1, -2, -3, 4, 0, 1, -2, -3, -4, 0,
+        ],
+        &[true, true, true, true],
+        &[true, false, false, false],
+    ),
+    (&[2, 2, 0], &[true, true], &[false, true]),
+    (&[1, -1, 0], &[true, true, true], &[false, false, false]),
+    (&[-1, 1, 0], &[true], &[false]),
+    (&[-1, 2, 0, 2, 1, 0], &[true, true], &[false, true]),
+    (&[-2, 0, 1, -2, 0], &[true, false], &[false, true]),
+    (&[], &[true, false], &[false, false]),
+    (&[], &[], &[]),
+];
+
 #[test]
 fn marks_are_the_variables_of_sole_true_literals(rt: HostRuntime) -> Result<(), Fail> {
-    let eight = [
-        1, 2, 3, 4, 0, 1, 2, 3, -4, 0, 1, 2, -3, 4, 0, 1, 2, -3, -4, 0, 1, -2, 3, 4, 0, 1, -2, 3,
-        -4, 0, 1, -2, -3, 4, 0, 1, -2, -3, -4, 0,
-    ];
-    for (numbers, values, expected) in [
-        (
-            eight.as_slice(),
-            [true, true, true, true].as_slice(),
-            [true, false, false, false].as_slice(),
-        ),
-        (
-            [2, 2, 0].as_slice(),
-            [true, true].as_slice(),
-            [false, true].as_slice(),
-        ),
-        (
-            [1, -1, 0].as_slice(),
-            [true, true, true].as_slice(),
-            [false, false, false].as_slice(),
-        ),
-        ([-1, 1, 0].as_slice(), [true].as_slice(), [false].as_slice()),
-        (
-            [-1, 2, 0, 2, 1, 0].as_slice(),
-            [true, true].as_slice(),
-            [false, true].as_slice(),
-        ),
-        (
-            [-2, 0, 1, -2, 0].as_slice(),
-            [true, false].as_slice(),
-            [false, true].as_slice(),
-        ),
-        (
-            [].as_slice(),
-            [true, false].as_slice(),
-            [false, false].as_slice(),
-        ),
-        ([].as_slice(), [].as_slice(), [].as_slice()),
-    ] {
+    for (numbers, values, expected) in ROWS {
         let marks = marks_of(rt.alloc(), numbers, values)?;
         assert!(rt; values.len() == expected.len());
         let _ = shared(&marks);

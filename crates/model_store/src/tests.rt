@@ -49,46 +49,24 @@ fn models_come_back_as_they_went_in(rt: HostRuntime) -> Result<(), Fail> {
     for last in [3, 63, 64, 65, 128, 130] {
         let formula = Formula::of_numbers(alloc, last, [1, 2, 0].as_slice())?;
         let mut store = ModelStore::new(alloc, &formula);
-        assert_eq!(rt;
-            push(alloc, &mut store, &formula, [1, last].as_slice())?,
-            0,
-            "{last}"
-        );
+        let first = push(alloc, &mut store, &formula, [1, last].as_slice())?;
+        assert_eq!(rt; first, 0, "{last}");
         let mut other = ModelStore::new(alloc, &formula);
-        assert_eq!(rt;
-            push(alloc, &mut other, &formula, [2].as_slice())?,
-            0,
-            "{last}"
-        );
-        assert_eq!(rt;
-            push(alloc, &mut other, &formula, [1, 2, last].as_slice())?,
-            1,
-            "{last}"
-        );
+        let second = push(alloc, &mut other, &formula, [2].as_slice())?;
+        let third = push(alloc, &mut other, &formula, [1, 2, last].as_slice())?;
+        assert_eq!(rt; (second, third), (0, 1), "{last}");
         assert!(rt; store.len() < 9 && other.len() < 9);
         assert_eq!(rt; store.append(other)?, 1, "{last}");
         assert_eq!(rt; shared(&store).len(), 3, "{last}");
-        for (model, first, second, last_value) in [
-            (0, true, false, true),
-            (1, false, true, false),
-            (2, true, true, true),
+        for (model, expected) in [
+            (0, [Some(true), Some(false), Some(true), None]),
+            (1, [Some(false), Some(true), Some(false), None]),
+            (2, [Some(true), Some(true), Some(true), None]),
         ] {
-            assert_eq!(rt;
-                value(&store, &formula, model, 1),
-                Some(first),
-                "{model} {last}"
-            );
-            assert_eq!(rt;
-                value(&store, &formula, model, 2),
-                Some(second),
-                "{model} {last}"
-            );
-            assert_eq!(rt;
-                value(&store, &formula, model, last),
-                Some(last_value),
-                "{model} {last}"
-            );
-            assert_eq!(rt; value(&store, &formula, model, last + 1), None);
+            for (var, expected) in [1, 2, last, last + 1].into_iter().zip(expected) {
+                let found = value(&store, &formula, model, var);
+                assert_eq!(rt; found, expected, "{model} {var}");
+            }
         }
     }
     Ok(())

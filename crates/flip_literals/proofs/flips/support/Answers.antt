@@ -31,7 +31,8 @@ loop-lit-preserved c =
                 found_is (Some lit) w.found-is (found-first a (take i lits) lit none holds)
           ]
       | else-is_true w ↦
-          found_is c.loop-lit.found w.found-is (found-false a (take i lits) c.loop-lit.found lit c.loop-lit.invariant (sym c.is_true.ensures ∙ w.if-is_true.false))
+          let fails = sym c.is_true.ensures ∙ w.if-is_true.false in
+          found_is c.loop-lit.found w.found-is (found-false a (take i lits) c.loop-lit.found lit c.loop-lit.invariant fails)
     ]
 
 pub returns-in-Some-found : goal.returns-in-Some-found
