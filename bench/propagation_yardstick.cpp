@@ -4,7 +4,8 @@
 //   propagation_yardstick VARIABLES CLAUSES ROUNDS CLAUSES_OF_TWO
 //
 // The design is that of the proved one: literals of all clauses in one array with a start for each clause,
-// a value for each packed literal, lists of watches of 8 bytes with a blocking literal and a mark for clauses
+// the trail's literals in order, level, place and reason of each variable side by side, a value for each packed
+// literal and a sign for each variable, lists of watches of 8 bytes with a blocking literal and a mark for clauses
 // of two literals, which are not looked at, and a watch that moves is replaced by its list's last one.
 #include <algorithm>
 #include <cstdint>
@@ -28,10 +29,9 @@ struct Watch {
     Lit blocker;
 };
 
-struct Assigned {
-    Lit lit;
-    uint32_t level;
-    uint64_t reason;
+struct Origin {
+    uint32_t level, place;
+    uint64_t kind, reason;
 };
 
 static const uint32_t none = UINT32_MAX, two_mark = 1u << 31;
@@ -41,14 +41,14 @@ struct Solver {
     std::vector<Lit> lits;
     std::vector<uint32_t> starts{0};
     std::vector<std::vector<Watch>> lists;
-    std::vector<Assigned> entries;
-    std::vector<uint32_t> places;
+    std::vector<Lit> trail;
+    std::vector<Origin> origins;
     std::vector<uint8_t> truth;
     std::vector<int8_t> signs;
     uint32_t gone = 0, level = 0, free = 1;
 
-    explicit Solver(uint32_t n) : vars(n), lists(2 * n + 2), places(n + 1), truth(2 * n + 2), signs(n) {
-        entries.reserve(n);
+    explicit Solver(uint32_t n) : vars(n), lists(2 * n + 2), origins(n + 1), truth(2 * n + 2), signs(n) {
+        trail.reserve(n);
     }
     void add(std::initializer_list<Lit> clause) {
         lits.insert(lits.end(), clause);
@@ -62,22 +62,21 @@ struct Solver {
             lists[second].push_back({code, first});
         }
     }
-    void push(Lit lit, uint64_t reason) {
-        entries.push_back({lit, level, reason});
-        places[lit / 2] = uint32_t(entries.size());
+    void push(Lit lit, uint64_t kind, uint64_t reason) {
+        origins[lit / 2] = {level, uint32_t(trail.size()), kind, reason};
+        trail.push_back(lit);
         truth[lit] = 1;
         signs[lit / 2 - 1] = lit % 2 ? -1 : 1;
     }
     void decide(Lit lit) {
-        while (free <= vars && places[free] != 0) free++;
+        while (free <= vars && signs[free - 1] != 0) free++;
         level++;
-        push(lit, UINT64_MAX);
+        push(lit, 0, 0);
     }
     void backtrack() {
-        while (!entries.empty()) {
-            Lit lit = entries.back().lit;
-            entries.pop_back();
-            places[lit / 2] = 0;
+        while (!trail.empty()) {
+            Lit lit = trail.back();
+            trail.pop_back();
             truth[lit] = 0;
             signs[lit / 2 - 1] = 0;
             free = std::min(free, lit / 2);
@@ -85,13 +84,13 @@ struct Solver {
         gone = level = 0;
     }
     uint32_t first_free() {
-        while (free <= vars && places[free] != 0) free++;
+        while (free <= vars && signs[free - 1] != 0) free++;
         return free;
     }
     // Propagates all entries, and answers a clause that is false, if there is one.
     uint32_t propagate() {
-        while (gone < entries.size()) {
-            Lit fallen = entries[gone].lit ^ 1;
+        while (gone < trail.size()) {
+            Lit fallen = trail[gone] ^ 1;
             std::vector<Watch> &list = lists[fallen];
             for (size_t at = 0; at < list.size();) {
                 Watch watch = list[at];
@@ -102,7 +101,7 @@ struct Solver {
                 uint32_t r = watch.code % two_mark;
                 if (watch.code >= two_mark) {
                     if (truth[watch.blocker ^ 1]) return r;
-                    push(watch.blocker, r);
+                    push(watch.blocker, 1, r);
                     at++;
                     continue;
                 }
@@ -124,7 +123,7 @@ struct Solver {
                     continue;
                 }
                 if (truth[first ^ 1]) return r;
-                push(first, r);
+                push(first, 1, r);
                 at++;
             }
             gone++;
@@ -174,7 +173,7 @@ int main(int count, char **words) {
                 break;
             }
         }
-        assigned += solver.entries.size();
+        assigned += solver.trail.size();
         solver.backtrack();
     }
     std::printf("clauses %zu\ndecisions %lu\nassigned %lu\nconflicts %lu\n", solver.starts.size() - 1,

@@ -1,27 +1,28 @@
 -- The entries of the levels above one are taken away.
 use Rattle.std.proofs.Common.{◌≡◌, ℕ, ℤ, pos, ◌+◌, ◌-◌, ◌<◌, ◌≤◌, Bool, false, min, List, length, get_or, set, take, refl, sym, ap, ◌∙◌}
 use Rattle.std.proofs.Common.{subst, ⊎_elim, arith}
-use Rattle.std.proofs.lemmas.List.{get_or-take, length-take-le, take-take, take_all}
+use Rattle.std.proofs.lemmas.List.{get_or-take, length-take-le, take-take, take-map, take_all}
 use Rattle.std.proofs.lemmas.Bool.{cases_lt}
 use Rattle.cnf_core.specs.Literals.{Literal, code_of, IsWithin}
-use Rattle.trail_core.proofs.Lookups.{code_within}
 use Rattle.trail_core.specs.declared.entry.Assigned.{Assigned}
+use Rattle.trail_core.specs.declared.trail.Origin.{Origin}
 use Rattle.trail_core.specs.Trails.{no_entry, assigned_at, IsLeveled, TrailState, IsBacktracked}
-use Rattle.trail_core.specs.Steps.Tables.{AreTables, AreStarts, IsHeld, state_of}
+use Rattle.trail_core.specs.Steps.Tables.{laid_entry, laid_entries, AreTables, AreStarts, IsHeld, state_of}
+use Rattle.trail_core.proofs.Lookups.{code_within}
 use Rattle.trail_core.proofs.Pushed.{level_at_most}
 use Rattle.trail_core.proofs.Popped.{EndsAt, tables_less}
 
 -- the first entries of a trail, at least so many, with tables that fit them
-pub record IsCutting (n : ℕ) (es : List Assigned) (start : ℕ) (fs : List Assigned) (ps : List ℕ) (ts : List Bool) (ss : List ℤ)
+pub record IsCutting (n : ℕ) (es : List Assigned) (start : ℕ) (fs : List Assigned) (os : List Origin) (ts : List Bool) (ss : List ℤ)
     (free : ℕ) : Type 0 where
   pub fits : length fs ≤ length es
   pub front : fs ≡ take (length fs) es
   pub low : start ≤ length fs
-  pub tables : AreTables n fs ps ts ss free
+  pub tables : AreTables n fs os ts ss free
 
-pub cutting_begins : (n : ℕ) (es : List Assigned) (start : ℕ) (ps : List ℕ) (ts : List Bool) (ss : List ℤ) (free : ℕ)
-    → AreTables n es ps ts ss free → start ≤ length es → IsCutting n es start es ps ts ss free
-cutting_begins n es start ps ts ss free h low = record {
+pub cutting_begins : (n : ℕ) (es : List Assigned) (start : ℕ) (os : List Origin) (ts : List Bool) (ss : List ℤ) (free : ℕ)
+    → AreTables n es os ts ss free → start ≤ length es → IsCutting n es start es os ts ss free
+cutting_begins n es start os ts ss free h low = record {
   fits = omega arith;
   front = sym (take_all (length es) es (omega arith));
   low = low;
@@ -29,18 +30,22 @@ cutting_begins n es start ps ts ss free h low = record {
 }
 
 -- one entry less
-pub cutting_goes_on : (n : ℕ) (es : List Assigned) (start : ℕ) (fs : List Assigned) (ps : List ℕ) (ts : List Bool) (ss : List ℤ)
-    (free : ℕ) (l : Literal) (m : ℕ) → IsCutting n es start fs ps ts ss free → EndsAt fs l m → start ≤ m
-    → IsCutting n es start (take m fs) (set ps l.var 0) (set ts (code_of l) false) (set ss (l.var - 1) (pos 0)) (min free l.var)
-cutting_goes_on n es start fs ps ts ss free l m h ends low =
+pub cutting_goes_on : (n : ℕ) (es : List Assigned) (start : ℕ) (os : List Origin) (ls : List Literal) (ts : List Bool) (ss : List ℤ)
+    (free : ℕ) (l : Literal) (m : ℕ) → IsCutting n es start (laid_entries os ls) os ts ss free → EndsAt (laid_entries os ls) l m
+    → start ≤ m → IsCutting n es start (laid_entries os (take m ls)) os (set ts (code_of l) false) (set ss (l.var - 1) (pos 0))
+    (min free l.var)
+cutting_goes_on n es start os ls ts ss free l m h ends low =
+    let fs = laid_entries os ls in
     let size : length (take m fs) ≡ m = length-take-le m fs (omega (arith, ends.last)) in
     let fewer : m ≤ length fs = omega (arith, ends.last) in
-    record {
+    subst (λ (gs : List Assigned). IsCutting n es start gs os (set ts (code_of l) false) (set ss (l.var - 1) (pos 0)) (min free l.var))
+    (take-map (laid_entry os) m ls)
+    (record {
       fits = omega (arith, size, h.fits);
       front = ap (take m) h.front ∙ take-take m (length fs) es fewer ∙ ap (λ k. take k es) (sym size);
       low = omega (arith, size);
-      tables = tables_less n fs ps ts ss free l m h.tables ends;
-    }
+      tables = tables_less n fs os ts ss free l m h.tables ends;
+    })
 
 -- the entry that a level starts with, and those before it
 pub record IsStart (es : List Assigned) (starts : List ℕ) (level start : ℕ) : Type 0 where
@@ -150,15 +155,15 @@ cut_is n es starts gone level start fs h s within at fits front low end =
     }
 
 -- the fields fit together again, and say the trail without those entries
-pub held_cut : (n : ℕ) (es : List Assigned) (starts : List ℕ) (gone : ℕ) (ps : List ℕ) (ts : List Bool) (ss : List ℤ)
-    (free cap level_cap level start : ℕ) (n' : ℕ) (fs : List Assigned) (starts' : List ℕ) (gone' : ℕ) (ps' : List ℕ)
-    (ts' : List Bool) (ss' : List ℤ) (free' cap' level_cap' : ℕ) → IsHeld n es starts gone ps ts ss free cap level_cap
-    → IsStart es starts level start → IsCutting n' es start fs ps' ts' ss' free' → length fs ≤ start
+pub held_cut : (n : ℕ) (es : List Assigned) (starts : List ℕ) (gone : ℕ) (os : List Origin) (ts : List Bool) (ss : List ℤ)
+    (free cap level_cap level start : ℕ) (n' : ℕ) (fs : List Assigned) (starts' : List ℕ) (gone' : ℕ) (os' : List Origin)
+    (ts' : List Bool) (ss' : List ℤ) (free' cap' level_cap' : ℕ) → IsHeld n es starts gone os ts ss free cap level_cap
+    → IsStart es starts level start → IsCutting n' es start fs os' ts' ss' free' → length fs ≤ start
     → n' ≡ n → starts' ≡ take level starts → gone' ≡ min gone start → cap' ≡ cap → level_cap' ≡ level_cap
-    → IsHeld n' fs starts' gone' ps' ts' ss' free' cap' level_cap'
+    → IsHeld n' fs starts' gone' os' ts' ss' free' cap' level_cap'
     × IsBacktracked level (state_of es starts gone n) (state_of fs starts' gone' n')
-held_cut n es starts gone ps ts ss free cap level_cap level start n' fs starts' gone' ps' ts' ss' free' cap' level_cap' h at c end
-    vars cut done room level_room =
+held_cut n es starts gone os ts ss free cap level_cap level start n' fs starts' gone' os' ts' ss' free' cap' level_cap' h at c
+    end vars cut done room level_room =
     let k = cut_is n es starts gone level start fs h.leveled h.started h.within at c.fits c.front c.low end in (
       record {
         tables = c.tables;
@@ -173,16 +178,14 @@ held_cut n es starts gone ps ts ss free cap level_cap level start n' fs starts' 
     )
 
 -- the tables have places for the last entry's variable
-pub record HasRoom (l : Literal) (ps : List ℕ) (ts : List Bool) (ss : List ℤ) : Type 0 where
-  pub places : l.var < length ps
+pub record HasRoom (l : Literal) (ts : List Bool) (ss : List ℤ) : Type 0 where
   pub truth : code_of l < length ts
   pub signs : l.var - 1 < length ss
 
-pub room_of : (n : ℕ) (es : List Assigned) (ps : List ℕ) (ts : List Bool) (ss : List ℤ) (free : ℕ) (l : Literal) (m : ℕ)
-    → AreTables n es ps ts ss free → EndsAt es l m → HasRoom l ps ts ss
-room_of n es ps ts ss free l m h ends =
+pub room_of : (n : ℕ) (es : List Assigned) (os : List Origin) (ts : List Bool) (ss : List ℤ) (free : ℕ) (l : Literal) (m : ℕ)
+    → AreTables n es os ts ss free → EndsAt es l m → HasRoom l ts ss
+room_of n es os ts ss free l m h ends =
     let w : IsWithin n l = subst (IsWithin n) ends.lit (h.placed.within m (omega (arith, ends.last))) in record {
-      places = omega (arith, h.placed.places_count, w.high);
-      truth = omega (arith, h.placed.truth_count, code_within n l w);
+      truth = omega (arith, h.marks.count, code_within n l w);
       signs = omega (arith, h.values.count, w.low, w.high);
     }

@@ -1,9 +1,10 @@
 -- Packed forms of literals.
-use Rattle.std.proofs.Common.{◌≡◌, ◌≢◌, ℕ, ◌+◌, ◌*◌, ◌≤◌, ℤ, Bool, true, false, not, eqb, w8, refl, sym, ap, ◌∙◌, arith}
+use Rattle.std.proofs.Common.{◌≡◌, ◌≢◌, ℕ, ◌+◌, ◌*◌, ◌≤◌, ℤ, pos, Bool, true, false, not, eqb, w8, refl, sym, ap, ◌∙◌, arith}
 use Rattle.std.proofs.lemmas.Bool.{eqb-true, eq-eqb, not-false, false≢true}
 use Rattle.cnf_core.specs.Literals.{Literal, code_of}
 use Rattle.std.specs.Int.{cast_signed, cast_unsigned}
 use Rattle.trail_core.specs.Trails.{sign_of}
+use Rattle.trail_core.specs.Steps.Tables.{unset}
 
 pub code_le : (l : Literal) → code_of l ≤ 2 * l.var + 1
 code_le l =
@@ -48,3 +49,19 @@ other_if k l b is apart same = false≢true (sym apart ∙ is ∙ eq-eqb (code_o
 pub other_unless : (k l : Literal) (b : Bool) → b ≡ not (eqb (code_of k) (code_of l)) → b ≡ true → k ≢ l
 other_unless k l b is apart same =
     false≢true (sym (ap not (eq-eqb (code_of k) (code_of l) (ap code_of same))) ∙ sym is ∙ apart)
+
+-- ---- signs
+
+set_sign : (v : ℕ) (b : Bool) → sign_of (record { var = v; positive = b }) ≢ pos 0
+set_sign v true e = let no : 0 ≡ 1 = ap unset e in absurd (omega (arith, no))
+set_sign v false e = let no : 0 ≡ 1 = ap unset e in absurd (omega (arith, no))
+
+-- no literal has the sign of no value
+pub sign_is_set : (l : Literal) → sign_of l ≢ pos 0
+sign_is_set l e = set_sign l.var l.positive e
+
+pub unset_of_sign : (l : Literal) → unset (sign_of l) ≡ 0
+unset_of_sign l =
+    let cases : (v : ℕ) (b : Bool) → unset (sign_of (record { var = v; positive = b })) ≡ 0 =
+    λ v b. elim b as (λ p. unset (sign_of (record { var = v; positive = p })) ≡ 0) [ true ↦ refl | false ↦ refl ] in
+    cases l.var l.positive

@@ -1,79 +1,110 @@
 -- What the tables of a trail say.
-use Rattle.std.proofs.Common.{◌≡◌, ◌≢◌, ℕ, zero, suc, ℤ, ◌+◌, ◌-◌, ◌*◌, ◌<◌, ◌≤◌, Bool, true, false, List, length, get_or, set, pos, refl}
+use Rattle.std.proofs.Common.{◌≡◌, ◌≢◌, ℕ, zero, suc, ℤ, ◌+◌, ◌-◌, ◌*◌, ◌<◌, ◌≤◌, Bool, false, List, length, get_or, set, pos, refl}
 use Rattle.std.proofs.Common.{sym, ap, ◌∙◌, subst, ⊎_elim, arith}
-use Rattle.std.proofs.lemmas.List.{get_or_read, length-set, get_or-set_same, get_or-set_other}
-use Rattle.std.specs.List.{sum_by}
-use Rattle.std.proofs.lemmas.List.Sums.{get_or-le-sum_by}
+use Rattle.std.proofs.lemmas.List.{get_or_read, get_or-map, length-map, length-set, get_or-set_same, get_or-set_other, ext_get_or}
 use Rattle.std.proofs.lemmas.Bool.{cases_lt, cases_eq}
 use Rattle.cnf_core.specs.Literals.{Literal, code_of, IsWithin}
 use Rattle.trail_core.specs.declared.entry.Assigned.{Assigned}
-use Rattle.trail_core.specs.Trails.{no_entry, sign_of, assigned_at, HasLiteral, HasVariable, IsFree, IsLeveled, TrailState, IsTrail}
-use Rattle.trail_core.specs.Trails.{IsFirstFree}
-use Rattle.trail_core.specs.Steps.Tables.{blank, IsPlaced, AreTables, IsHeld, state_of}
-use Rattle.trail_core.proofs.Literals.{code_le}
+use Rattle.trail_core.specs.declared.entry.Reason.TheVariants.{Unit as ByUnit}
+use Rattle.trail_core.specs.declared.trail.Origin.{Origin}
+use Rattle.trail_core.specs.Trails.{no_entry, sign_of, assigned_at, HasVariable, IsFree, IsLeveled, AreValues, TrailState}
+use Rattle.trail_core.specs.Trails.{IsTrail, IsFirstFree}
+use Rattle.trail_core.specs.Steps.Tables.{sign_at, no_origin, origin_at, laid_entry, laid_entries, IsPlaced, AreMarks, AreTables}
+use Rattle.trail_core.specs.Steps.Tables.{IsHeld, state_of}
+use Rattle.trail_core.proofs.Literals.{code_le, sign_is_set}
 
 pub code_within : (n : ℕ) (l : Literal) → IsWithin n l → code_of l < 2 * n + 2
 code_within n l w = omega (arith, code_le l, w.high)
 
--- a variable without a place is free, and one with a place has the entry there
-pub free_of_blank : (n : ℕ) (es : List Assigned) (ps : List ℕ) (ts : List Bool) (v : ℕ) → IsPlaced n es ps ts
-    → get_or ps v 0 ≡ 0 → IsFree es v
-free_of_blank n es ps ts v p none k within is =
-    let e : get_or ps v 0 ≡ k + 1 = ap (λ u. get_or ps u 0) (sym is) ∙ p.placed k within in
-    omega (arith, e, none)
+-- ---- the entries as they lie
 
-pub has_of_place : (n : ℕ) (es : List Assigned) (ps : List ℕ) (ts : List Bool) (v : ℕ) → IsPlaced n es ps ts
-    → 0 < get_or ps v 0 → HasVariable es v
-has_of_place n es ps ts v p some =
-    let f = p.found v some in
-    record { place = get_or ps v 0 - 1; within = omega (arith, f.0); var = f.1 }
+-- the literal of an entry
+abbrev pub no_literal : Literal
+no_literal = no_entry.lit
 
-pub blank_of_free : (n : ℕ) (es : List Assigned) (ps : List ℕ) (ts : List Bool) (v : ℕ) → IsPlaced n es ps ts
-    → IsFree es v → get_or ps v 0 ≡ 0
-blank_of_free n es ps ts v p free =
-    ⊎_elim
-    (λ (some : 0 < get_or ps v 0). let h = has_of_place n es ps ts v p some in absurd (free h.place h.within h.var))
-    (λ (none : get_or ps v 0 ≤ 0). omega arith)
-    (cases_lt 0 (get_or ps v 0))
+pub count_laid : (os : List Origin) (ls : List Literal) → length (laid_entries os ls) ≡ length ls
+count_laid os ls = length-map ls (laid_entry os)
 
--- the place of an entry's variable
-pub place_is : (n : ℕ) (es : List Assigned) (ps : List ℕ) (ts : List Bool) (v k : ℕ) → IsPlaced n es ps ts
-    → k < length es → (assigned_at es k).lit.var ≡ v → get_or ps v 0 ≡ k + 1
-place_is n es ps ts v k p within is = ap (λ u. get_or ps u 0) (sym is) ∙ p.placed k within
+pub laid_at : (os : List Origin) (ls : List Literal) (k : ℕ) → k < length ls
+    → assigned_at (laid_entries os ls) k ≡ laid_entry os (get_or ls k no_literal)
+laid_at os ls k within = get_or-map (laid_entry os) ls k no_literal no_entry within
 
-pub var_within : (n : ℕ) (es : List Assigned) (ps : List ℕ) (ts : List Bool) (v : ℕ) → IsPlaced n es ps ts
+-- a literal that was read
+pub lit_read : (os : List Origin) (ls : List Literal) (k : ℕ) (l : Literal) → k < length ls → l ≡ get_or ls k l
+    → assigned_at (laid_entries os ls) k ≡ laid_entry os l
+lit_read os ls k l within read =
+    laid_at os ls k within ∙ ap (λ (m : Literal). laid_entry os m) (sym (get_or_read ls k l within read no_literal))
+
+-- an origin that was read is that of each entry of its variable
+pub origin_read : (os : List Origin) (ls : List Literal) (v k : ℕ) (o : Origin) → v < length os → o ≡ get_or os v o
+    → k < length ls → (assigned_at (laid_entries os ls) k).lit.var ≡ v
+    → ((assigned_at (laid_entries os ls) k).level ≡ o.level) × ((assigned_at (laid_entries os ls) k).reason ≡ o.reason)
+    × (o ≡ origin_at os v)
+origin_read os ls v k o within read inside is =
+    let l = get_or ls k no_literal in
+    let at : assigned_at (laid_entries os ls) k ≡ laid_entry os l = laid_at os ls k inside in
+    let var : l.var ≡ v = sym (ap (λ (e : Assigned). e.lit.var) at) ∙ is in
+    let known : o ≡ origin_at os v = get_or_read os v o within read no_origin in
+    let same : origin_at os l.var ≡ o = ap (λ (u : ℕ). origin_at os u) var ∙ sym known in (
+      ap (λ (e : Assigned). e.level) at ∙ ap (λ (p : Origin). p.level) same,
+      ap (λ (e : Assigned). e.reason) at ∙ ap (λ (p : Origin). p.reason) same,
+      known,
+    )
+
+-- ---- variables and signs
+
+pub set_of_entry : (n : ℕ) (es : List Assigned) (ss : List ℤ) (v k : ℕ) → AreValues n es ss
+    → k < length es → (assigned_at es k).lit.var ≡ v → sign_at ss v ≢ pos 0
+set_of_entry n es ss v k vs within is none =
+    sign_is_set (assigned_at es k).lit
+    (sym (vs.valued k within) ∙ ap (λ (u : ℕ). sign_at ss u) is ∙ none)
+
+-- a variable without a sign is free
+pub free_of_unset : (n : ℕ) (es : List Assigned) (ss : List ℤ) (v : ℕ) → AreValues n es ss
+    → sign_at ss v ≡ pos 0 → IsFree es v
+free_of_unset n es ss v vs none k within is = set_of_entry n es ss v k vs within is none
+
+-- no variable has two entries
+pub same_place : (n : ℕ) (es : List Assigned) (os : List Origin) (ss : List ℤ) (j k : ℕ) → IsPlaced n es os ss
+    → j < length es → k < length es → (assigned_at es j).lit.var ≡ (assigned_at es k).lit.var → j ≡ k
+same_place n es os ss j k p first second same =
+    sym (p.placed j first) ∙ ap (λ (v : ℕ). (origin_at os v).place) same ∙ p.placed k second
+
+pub var_within : (n : ℕ) (es : List Assigned) (os : List Origin) (ss : List ℤ) (v : ℕ) → IsPlaced n es os ss
     → HasVariable es v → (0 < v) × (v ≤ n)
-var_within n es ps ts v p h =
+var_within n es os ss v p h =
     let w = p.within h.place h.within in
     (omega (arith, w.low, h.var), omega (arith, w.high, h.var))
 
-pub literal_read : (n : ℕ) (es : List Assigned) (ps : List ℕ) (ts : List Bool) (l : Literal) → IsPlaced n es ps ts
-    → HasLiteral es l → get_or ts (code_of l) false ≡ true
-literal_read n es ps ts l p h = ap (λ m. get_or ts (code_of m) false) (sym h.lit) ∙ p.true_at h.place h.within
+-- the variable of a literal that was read has an origin
+pub var_of_read : (n : ℕ) (os : List Origin) (ls : List Literal) (ss : List ℤ) (k : ℕ) (l : Literal)
+    → IsPlaced n (laid_entries os ls) os ss → k < length (laid_entries os ls) → l ≡ get_or ls k l → l.var < length os
+var_of_read n os ls ss k l p within read =
+    let at : assigned_at (laid_entries os ls) k ≡ laid_entry os l =
+    lit_read os ls k l (omega (arith, count_laid os ls)) read in
+    omega (arith, p.count, (p.within k within).high, ap (λ (e : Assigned). e.lit.var) at)
 
--- there is no more than one entry a variable, since no entry stands at the place of variable 0
-few_entries : (n : ℕ) (es : List Assigned) (ps : List ℕ) (ts : List Bool) → IsPlaced n es ps ts → length es ≤ n
-few_entries n es ps ts p =
-    let none : IsFree es 0 = λ k within is. omega (arith, (p.within k within).low, is) in
-    let here : get_or ps 0 0 ≡ 0 = blank_of_free n es ps ts 0 p none in
-    let one : blank (get_or ps 0 0) ≡ 1 = ap blank here in
-    let some : blank (get_or ps 0 0) ≤ sum_by blank ps = get_or-le-sum_by blank ps 0 0 (omega (arith, p.places_count)) in
-    omega (arith, p.blanks)
+-- an entry, from the literal and the origin that were read
+pub entry_read : (n : ℕ) (os : List Origin) (ls : List Literal) (ss : List ℤ) (k : ℕ) (l : Literal) (v : ℕ) (o : Origin)
+    → IsPlaced n (laid_entries os ls) os ss → k < length (laid_entries os ls) → l ≡ get_or ls k l → v ≡ l.var → o ≡ get_or os v o
+    → (let a : Assigned = record { lit = l; level = o.level; reason = o.reason } in a) ≡ assigned_at (laid_entries os ls) k
+entry_read n os ls ss k l v o p within read var origin =
+    let at : assigned_at (laid_entries os ls) k ≡ laid_entry os l =
+    lit_read os ls k l (omega (arith, count_laid os ls)) read in
+    let inside : v < length os = omega (arith, var, var_of_read n os ls ss k l p within read) in
+    let known : o ≡ origin_at os l.var = get_or_read os v o inside origin no_origin ∙ ap (λ (u : ℕ). origin_at os u) var in
+    ap (λ (q : Origin). (let a : Assigned = record { lit = l; level = q.level; reason = q.reason } in a)) known ∙ sym at
 
 -- what holds of every trail
-pub trail_is : (n : ℕ) (es : List Assigned) (starts : List ℕ) (gone : ℕ) (ps : List ℕ) (ts : List Bool) (ss : List ℤ) (f c d : ℕ)
-    → IsHeld n es starts gone ps ts ss f c d → IsTrail (state_of es starts gone n)
-trail_is n es starts gone ps ts ss f c d h = record {
+pub trail_is : (n : ℕ) (es : List Assigned) (starts : List ℕ) (gone : ℕ) (os : List Origin) (ts : List Bool) (ss : List ℤ) (f c d : ℕ)
+    → IsHeld n es starts gone os ts ss f c d → IsTrail (state_of es starts gone n)
+trail_is n es starts gone os ts ss f c d h = record {
   vars_limit = h.vars_limit;
   within = h.tables.placed.within;
-  distinct = λ j k first second same.
-      let a = h.tables.placed.placed j first in
-      let b = h.tables.placed.placed k second in
-      let e = ap (λ v. get_or ps v 0) same in
-      omega (arith, a, b, e);
+  distinct = λ j k first second same. same_place n es os ss j k h.tables.placed first second same;
   leveled = h.leveled;
   gone = h.within;
-  few = few_entries n es ps ts h.tables.placed;
+  few = omega (arith, h.tables.placed.blanks);
 }
 
 -- the present level is at most the number of entries
@@ -95,10 +126,10 @@ deep es level h =
     (cases_lt 0 (length es))
 
 -- the present level is at most the number of variables
-pub few_levels : (n : ℕ) (es : List Assigned) (starts : List ℕ) (gone : ℕ) (ps : List ℕ) (ts : List Bool) (ss : List ℤ) (f c d : ℕ)
-    → IsHeld n es starts gone ps ts ss f c d → length starts ≤ n
-few_levels n es starts gone ps ts ss f c d h =
-    omega (arith, deep es (length starts) h.leveled, few_entries n es ps ts h.tables.placed)
+pub few_levels : (n : ℕ) (es : List Assigned) (starts : List ℕ) (gone : ℕ) (os : List Origin) (ts : List Bool) (ss : List ℤ) (f c d : ℕ)
+    → IsHeld n es starts gone os ts ss f c d → length starts ≤ n
+few_levels n es starts gone os ts ss f c d h =
+    omega (arith, deep es (length starts) h.leveled, h.tables.placed.blanks)
 
 -- entries with the same literals and levels, whatever their reasons
 pub record AreAlike (es fs : List Assigned) : Type 0 where
@@ -106,17 +137,31 @@ pub record AreAlike (es fs : List Assigned) : Type 0 where
   pub lits : (k : ℕ) → (assigned_at fs k).lit ≡ (assigned_at es k).lit
   pub levels : (k : ℕ) → (assigned_at fs k).level ≡ (assigned_at es k).level
 
-has_alike : (es fs : List Assigned) (l : Literal) → AreAlike es fs → HasLiteral es l → HasLiteral fs l
-has_alike es fs l a h = record {
+has_variable_alike : (es fs : List Assigned) (v : ℕ) → AreAlike es fs → HasVariable es v → HasVariable fs v
+has_variable_alike es fs v a h = record {
   place = h.place;
   within = omega (arith, a.count, h.within);
-  lit = a.lits h.place ∙ h.lit;
+  var = ap (λ (l : Literal). l.var) (a.lits h.place) ∙ h.var;
 }
 
-pub held_alike : (n : ℕ) (es fs : List Assigned) (starts : List ℕ) (gone : ℕ) (ps : List ℕ) (ts : List Bool) (ss : List ℤ)
-    (free cap level_cap : ℕ) → AreAlike es fs → IsHeld n es starts gone ps ts ss free cap level_cap
-    → IsHeld n fs starts gone ps ts ss free cap level_cap
-held_alike n es fs starts gone ps ts ss free cap level_cap a h =
+marks_alike : (n : ℕ) (es fs : List Assigned) (ts : List Bool) → AreAlike es fs → AreMarks n es ts → AreMarks n fs ts
+marks_alike n es fs ts a m = record {
+  count = m.count;
+  true_at = λ k lt. ap (λ (l : Literal). get_or ts (code_of l) false) (a.lits k) ∙ m.true_at k (omega (arith, a.count, lt));
+  only_true = λ l read.
+      let h = m.only_true l read in
+      record { place = h.place; within = omega (arith, a.count, h.within); lit = a.lits h.place ∙ h.lit };
+}
+
+-- origins with the same places
+pub record ArePlacedAlike (os qs : List Origin) : Type 0 where
+  pub count : length qs ≡ length os
+  pub places : (v : ℕ) → (origin_at qs v).place ≡ (origin_at os v).place
+
+pub held_alike : (n : ℕ) (es fs : List Assigned) (starts : List ℕ) (gone : ℕ) (os qs : List Origin) (ts : List Bool) (ss : List ℤ)
+    (free cap level_cap : ℕ) → AreAlike es fs → ArePlacedAlike os qs → IsHeld n es starts gone os ts ss free cap level_cap
+    → IsHeld n fs starts gone qs ts ss free cap level_cap
+held_alike n es fs starts gone os qs ts ss free cap level_cap a o h =
     let p = h.tables.placed in
     let v = h.tables.values in
     let g = h.leveled in
@@ -126,17 +171,13 @@ held_alike n es fs starts gone ps ts ss free cap level_cap a h =
       tables = record {
         placed = record {
           within = λ k lt. subst (IsWithin n) (sym (a.lits k)) (p.within k (old k lt));
-          places_count = p.places_count;
-          truth_count = p.truth_count;
-          placed = λ k lt. ap (λ l. get_or ps l.var 0) (a.lits k) ∙ p.placed k (old k lt);
-          found = λ u some. (
-            omega (arith, a.count, (p.found u some).0),
-            ap (λ l. l.var) (a.lits (get_or ps u 0 - 1)) ∙ (p.found u some).1,
-          );
-          true_at = λ k lt. ap (λ l. get_or ts (code_of l) false) (a.lits k) ∙ p.true_at k (old k lt);
-          only_true = λ l read. has_alike es fs l a (p.only_true l read);
+          count = o.count ∙ p.count;
+          placed = λ k lt. ap (λ (l : Literal). (origin_at qs l.var).place) (a.lits k)
+              ∙ o.places (assigned_at es k).lit.var ∙ p.placed k (old k lt);
+          found = λ u low some. has_variable_alike es fs u a (p.found u low some);
           blanks = omega (arith, a.count, p.blanks);
         };
+        marks = marks_alike n es fs ts a h.tables.marks;
         values = record {
           count = v.count;
           valued = λ k lt. ap (λ l. get_or ss (l.var - 1) (pos 0)) (a.lits k) ∙ v.valued k (old k lt) ∙ ap sign_of (sym (a.lits k));
@@ -164,10 +205,9 @@ held_alike n es fs starts gone ps ts ss free cap level_cap a h =
       vars_limit = h.vars_limit;
     }
 
-pub alike_root : (es : List Assigned) (k : ℕ) (x y : Assigned) → k < length es → x ≡ get_or es k x → y.lit ≡ x.lit
-    → y.level ≡ x.level → AreAlike es (set es k y)
-alike_root es k x y within read lit level =
-    let is : x ≡ assigned_at es k = get_or_read es k x within read no_entry in
+alike_root : (es : List Assigned) (k : ℕ) (y : Assigned) → k < length es → y.lit ≡ (assigned_at es k).lit
+    → y.level ≡ (assigned_at es k).level → AreAlike es (set es k y)
+alike_root es k y within lit level =
     let same : (F : Assigned → Assigned → Type 0) → F y (assigned_at es k) → ((j : ℕ) → F (assigned_at es j) (assigned_at es j))
     → (j : ℕ) → F (assigned_at (set es k y) j) (assigned_at es j) =
     λ F here others j. ⊎_elim
@@ -177,32 +217,106 @@ alike_root es k x y within read lit level =
     (cases_eq j k) in
     record {
       count = length-set es k y;
-      lits = same (λ a b. a.lit ≡ b.lit) (lit ∙ ap (λ e. e.lit) is) (λ j. refl);
-      levels = same (λ a b. a.level ≡ b.level) (level ∙ ap (λ e. e.level) is) (λ j. refl);
+      lits = same (λ a b. a.lit ≡ b.lit) lit (λ j. refl);
+      levels = same (λ a b. a.level ≡ b.level) level (λ j. refl);
     }
 
--- the least variable without a place is the first free one
-pub first_free_is : (t : TrailState) (ps : List ℕ) (ts : List Bool) (ss : List ℤ) (f v : ℕ) → AreTables t.vars t.entries ps ts ss f
-    → f ≤ v → v ≤ t.vars → get_or ps v 0 ≡ 0 → ((u : ℕ) → f ≤ u → u < v → 0 < get_or ps u 0) → IsFirstFree t v
-first_free_is t ps ts ss f v h from within blank passed = record {
+-- an origin with another reason is set: one entry has that reason
+laid_root : (n : ℕ) (os : List Origin) (ls : List Literal) (ss : List ℤ) (v k id : ℕ) → IsPlaced n (laid_entries os ls) os ss
+    → k < length ls → (assigned_at (laid_entries os ls) k).lit.var ≡ v
+    → laid_entries (set os v (record (origin_at os v) { reason = ByUnit id })) ls
+    ≡ set (laid_entries os ls) k (record (assigned_at (laid_entries os ls) k) { reason = ByUnit id })
+laid_root n os ls ss v k id p within is =
+    let es = laid_entries os ls in
+    let o : Origin = record (origin_at os v) { reason = ByUnit id } in
+    let a : Assigned = record (assigned_at es k) { reason = ByUnit id } in
+    let qs = set os v o in
+    let size : length es ≡ length ls = count_laid os ls in
+    let in_os : v < length os =
+    omega (arith, p.count, (p.within k (omega (arith, size))).high, is) in
+    let each : (j : ℕ) → j < length ls → laid_entry qs (get_or ls j no_literal) ≡ assigned_at (set es k a) j =
+    λ j lt.
+    let l = get_or ls j no_literal in
+    let at : assigned_at es j ≡ laid_entry os l = laid_at os ls j lt in
+    ⊎_elim
+    (λ (here : j ≡ k).
+    let var : l.var ≡ v = sym (ap (λ (e : Assigned). e.lit.var) at) ∙ ap (λ (m : ℕ). (assigned_at es m).lit.var) here ∙ is in
+    let new : origin_at qs l.var ≡ o = ap (λ (u : ℕ). origin_at qs u) var ∙ get_or-set_same os v o no_origin in_os in
+    let known : assigned_at es k ≡ laid_entry os l = ap (λ (m : ℕ). assigned_at es m) (sym here) ∙ at in
+    let read : assigned_at (set es k a) j ≡ a =
+    ap (λ (m : ℕ). assigned_at (set es k a) m) here ∙ get_or-set_same es k a no_entry (omega (arith, size)) in
+    let was : origin_at os l.var ≡ origin_at os v = ap (λ (u : ℕ). origin_at os u) var in
+    ap (λ (q : Origin). (let e : Assigned = record { lit = l; level = q.level; reason = q.reason } in e)) new
+    ∙ ap (λ (q : Origin). (let e : Assigned = record { lit = l; level = q.level; reason = ByUnit id } in e)) (sym was)
+    ∙ ap (λ (e : Assigned). record e { reason = ByUnit id }) (sym known)
+    ∙ sym read)
+    (λ (ne : j ≢ k).
+    let apart : l.var ≢ v =
+    λ e. ne (same_place n es os ss j k p (omega (arith, size)) (omega (arith, size))
+    (ap (λ (x : Assigned). x.lit.var) at ∙ e ∙ sym is)) in
+    let old : origin_at qs l.var ≡ origin_at os l.var = get_or-set_other os v l.var o no_origin apart in
+    ap (λ (q : Origin). (let e : Assigned = record { lit = l; level = q.level; reason = q.reason } in e)) old
+    ∙ sym at ∙ sym (get_or-set_other es k j a no_entry ne))
+    (cases_eq j k) in
+    ext_get_or no_entry (laid_entries qs ls) (set es k a)
+    (count_laid qs ls ∙ sym size ∙ sym (length-set es k a))
+    (λ j lt. laid_at qs ls j (omega (arith, count_laid qs ls)) ∙ each j (omega (arith, count_laid qs ls)))
+
+placed_root : (os : List Origin) (v : ℕ) (o : Origin) → o.place ≡ (origin_at os v).place → v < length os → ArePlacedAlike os (set os v o)
+placed_root os v o place within = record {
+  count = length-set os v o;
+  places = λ u. ⊎_elim
+      (λ (at : u ≡ v). subst (λ (z : ℕ). (origin_at (set os v o) z).place ≡ (origin_at os z).place) (sym at)
+      (ap (λ (q : Origin). q.place) (get_or-set_same os v o no_origin within) ∙ place))
+      (λ (ne : u ≢ v). ap (λ (q : Origin). q.place) (get_or-set_other os v u o no_origin ne))
+      (cases_eq u v);
+}
+
+-- the trail with the reason of one entry set
+pub record IsRooted (n : ℕ) (os : List Origin) (ls : List Literal) (starts : List ℕ) (gone : ℕ) (ts : List Bool) (ss : List ℤ)
+    (free cap level_cap v id : ℕ) (qs : List Origin) : Type 0 where
+  pub held : IsHeld n (laid_entries qs ls) starts gone qs ts ss free cap level_cap
+  pub entries : (k : ℕ) → k < length (laid_entries os ls) → (assigned_at (laid_entries os ls) k).lit.var ≡ v
+      → laid_entries qs ls ≡ set (laid_entries os ls) k (record (assigned_at (laid_entries os ls) k) { reason = ByUnit id })
+
+pub rooted : (n : ℕ) (os : List Origin) (ls : List Literal) (starts : List ℕ) (gone : ℕ) (ts : List Bool) (ss : List ℤ)
+    (free cap level_cap v id : ℕ) (x o : Origin) → IsHeld n (laid_entries os ls) starts gone os ts ss free cap level_cap
+    → HasVariable (laid_entries os ls) v → x ≡ get_or os v x → o ≡ record x { reason = ByUnit id }
+    → IsRooted n os ls starts gone ts ss free cap level_cap v id (set os v o)
+rooted n os ls starts gone ts ss free cap level_cap v id x o h has read new =
+    let es = laid_entries os ls in
+    let p = h.tables.placed in
+    let size : length es ≡ length ls = count_laid os ls in
+    let within : v < length os = omega (arith, p.count, (var_within n es os ss v p has).1) in
+    let y : Origin = record (origin_at os v) { reason = ByUnit id } in
+    let is : o ≡ y = new ∙ ap (λ (q : Origin). record q { reason = ByUnit id }) (get_or_read os v x within read no_origin) in
+    let entries : (k : ℕ) → k < length es → (assigned_at es k).lit.var ≡ v
+    → laid_entries (set os v y) ls ≡ set es k (record (assigned_at es k) { reason = ByUnit id }) =
+    λ k lt var. laid_root n os ls ss v k id p (omega (arith, size)) var in
+    let k = has.place in
+    let a : Assigned = record (assigned_at es k) { reason = ByUnit id } in
+    let held : IsHeld n (set es k a) starts gone (set os v y) ts ss free cap level_cap =
+    held_alike n es (set es k a) starts gone os (set os v y) ts ss free cap level_cap
+    (alike_root es k a has.within refl refl) (placed_root os v y refl within) h in
+    subst (λ (z : Origin). IsRooted n os ls starts gone ts ss free cap level_cap v id (set os v z)) (sym is)
+    (record {
+      held = subst (λ (fs : List Assigned). IsHeld n fs starts gone (set os v y) ts ss free cap level_cap)
+          (sym (entries k has.within has.var)) held;
+      entries = entries;
+    })
+
+-- the least variable without a sign is the first free one
+pub first_free_is : (t : TrailState) (os : List Origin) (ts : List Bool) (ss : List ℤ) (f v : ℕ) → AreTables t.vars t.entries os ts ss f
+    → f ≤ v → v ≤ t.vars → sign_at ss v ≡ pos 0 → ((u : ℕ) → f ≤ u → u < v → sign_at ss u ≢ pos 0) → IsFirstFree t v
+first_free_is t os ts ss f v h from within none passed = record {
   within = (omega (arith, h.cursor.0), within);
-  free = free_of_blank t.vars t.entries ps ts v h.placed blank;
-  below = λ u some lt. has_of_place t.vars t.entries ps ts u h.placed
+  free = free_of_unset t.vars t.entries ss v h.values none;
+  below = λ u some lt. h.placed.found u some
       (⊎_elim (λ (before : u < f). h.before u some before) (λ (past : f ≤ u). passed u past lt) (cases_lt u f));
 }
 
-pub none_free : (n : ℕ) (es : List Assigned) (ps : List ℕ) (ts : List Bool) (ss : List ℤ) (f v : ℕ) → AreTables n es ps ts ss f
-    → n < v → ((u : ℕ) → f ≤ u → u < v → 0 < get_or ps u 0) → (u : ℕ) → 0 < u → u ≤ n → HasVariable es u
-none_free n es ps ts ss f v h past passed u some within =
-    has_of_place n es ps ts u h.placed
+pub none_free : (n : ℕ) (es : List Assigned) (os : List Origin) (ts : List Bool) (ss : List ℤ) (f v : ℕ) → AreTables n es os ts ss f
+    → n < v → ((u : ℕ) → f ≤ u → u < v → sign_at ss u ≢ pos 0) → (u : ℕ) → 0 < u → u ≤ n → HasVariable es u
+none_free n es os ts ss f v h past passed u some within =
+    h.placed.found u some
     (⊎_elim (λ (before : u < f). h.before u some before) (λ (after : f ≤ u). passed u after (omega arith)) (cases_lt u f))
-
--- the place that was read is that of the variable's entry
-pub place_read : (n : ℕ) (es : List Assigned) (ps : List ℕ) (ts : List Bool) (v x : ℕ) → IsPlaced n es ps ts
-    → (h : HasVariable es v) → x ≡ get_or ps v x → x ≡ h.place + 1
-place_read n es ps ts v x p h read =
-    let in_range : v < length ps = omega (arith, p.places_count, (var_within n es ps ts v p h).1) in
-    get_or_read ps v x in_range read 0 ∙ place_is n es ps ts v h.place p h.within h.var
-
-pub variable_of_literal : (es : List Assigned) (l : Literal) → HasLiteral es l → HasVariable es l.var
-variable_of_literal es l h = record { place = h.place; within = h.within; var = ap (λ k. k.var) h.lit }

@@ -1,20 +1,20 @@
 -- A trail with one entry more still fits its tables.
-use Rattle.std.proofs.Common.{◌≡◌, ◌≢◌, ℕ, zero, suc, ℤ, pos, ◌+◌, ◌-◌, ◌<◌, ◌≤◌, Bool, true, false, nat_lt, if◌then◌else◌, List, [], ◌∷◌}
+use Rattle.std.proofs.Common.{◌≡◌, ◌≢◌, ℕ, ℤ, pos, ◌+◌, ◌-◌, ◌<◌, ◌≤◌, Bool, true, false, nat_lt, if◌then◌else◌, List, [], ◌∷◌}
 use Rattle.std.proofs.Common.{◌++◌, length, get_or, set, refl, sym, ap, ◌∙◌, subst, ⊎_elim, arith}
 use Rattle.std.specs.List.{sum_by}
-use Rattle.std.proofs.lemmas.List.{length-set, get_or-set_same, get_or-set_other, get_or_append_left, get_or_push, length_push}
+use Rattle.std.proofs.lemmas.List.{length-set, get_or-set_same, get_or-set_other, get_or_append_left, get_or_push, length_push, map_push}
+use Rattle.std.proofs.lemmas.List.{ext_get_or}
 use Rattle.std.proofs.lemmas.List.Sums.{sum_by-set, get_or-le-sum_by}
 use Rattle.std.proofs.lemmas.Bool.{cases_lt, cases_eq}
-use Rattle.cnf_core.specs.Literals.{code_of, IsWithin}
+use Rattle.cnf_core.specs.Literals.{Literal, code_of, IsWithin}
 use Rattle.trail_core.specs.declared.entry.Assigned.{Assigned}
-use Rattle.trail_core.specs.Trails.{no_entry, assigned_at, IsFree, IsLeveled, AreValues, sign_of}
-use Rattle.trail_core.specs.Steps.Tables.{blank, IsPlaced, AreTables, AreStarts, IsHeld, opened}
-use Rattle.trail_core.proofs.Literals.{same_code}
-use Rattle.trail_core.proofs.Lookups.{code_within, blank_of_free}
-
-pub blank_of_some : (m : ℕ) → 0 < m → blank m ≡ 0
-blank_of_some zero some = absurd (omega arith)
-blank_of_some (suc m) some = refl
+use Rattle.trail_core.specs.declared.trail.Origin.{Origin}
+use Rattle.trail_core.specs.Trails.{no_entry, assigned_at, HasLiteral, HasVariable, IsFree, IsLeveled, AreValues, sign_of}
+use Rattle.trail_core.specs.Trails.{TrailState, with_entry}
+use Rattle.trail_core.specs.Steps.Tables.{sign_at, no_origin, origin_at, laid_entry, laid_entries, unset, IsPlaced, AreMarks, AreTables}
+use Rattle.trail_core.specs.Steps.Tables.{AreStarts, IsHeld, opened, state_of}
+use Rattle.trail_core.proofs.Literals.{same_code, sign_is_set, unset_of_sign}
+use Rattle.trail_core.proofs.Lookups.{no_literal, code_within, count_laid, laid_at, deep}
 
 at_old : (es : List Assigned) (a : Assigned) (k : ℕ) → k < length es → assigned_at (es ++ a ∷ []) k ≡ assigned_at es k
 at_old es a k within = get_or_append_left es (a ∷ []) no_entry k within
@@ -34,83 +34,78 @@ each P es a old new k within =
     subst (P k) (sym (at_new es a k at)) (subst (λ n. P n a) (sym at) new))
     (cases_lt k (length es))
 
-still_true : (ts : List Bool) (c d : ℕ) → c < length ts → get_or ts d false ≡ true → get_or (set ts c true) d false ≡ true
-still_true ts c d within was =
-    ⊎_elim
-    (λ (at : d ≡ c). ap (λ n. get_or (set ts c true) n false) at ∙ get_or-set_same ts c true false within)
-    (λ (other : d ≢ c). get_or-set_other ts c d true false other ∙ was)
-    (cases_eq d c)
-
 -- there is room for the entry of a free variable
-pub room_left : (n : ℕ) (es : List Assigned) (ps : List ℕ) (ts : List Bool) (v : ℕ) → IsPlaced n es ps ts
+room_left : (n : ℕ) (es : List Assigned) (os : List Origin) (ss : List ℤ) (v : ℕ) → IsPlaced n es os ss → AreValues n es ss
     → 0 < v → v ≤ n → IsFree es v → length es < n
-room_left n es ps ts v p low high free =
-    let here : get_or ps v 0 ≡ 0 = blank_of_free n es ps ts v p free in
-    let qs = set ps v 1 in
-    let one : sum_by blank qs + blank (get_or ps v 0) ≡ sum_by blank ps + blank 1 =
-    sum_by-set blank ps v 1 0 (omega (arith, p.places_count)) in
-    let was : blank (get_or ps v 0) ≡ 1 = ap blank here in
-    let zero_free : get_or ps 0 0 ≡ 0 = blank_of_free n es ps ts 0 p (λ k within is. omega (arith, (p.within k within).low, is)) in
-    let first : get_or qs 0 0 ≡ 0 = get_or-set_other ps v 0 1 0 (λ e. omega (arith, e)) ∙ zero_free in
-    let count : length qs ≡ length ps = length-set ps v 1 in
-    let some : blank (get_or qs 0 0) ≤ sum_by blank qs = get_or-le-sum_by blank qs 0 0 (omega (arith, p.places_count)) in
-    let is_one : blank (get_or qs 0 0) ≡ 1 = ap blank first in
+room_left n es os ss v p vs low high free =
+    let none : unset (sign_at ss v) ≡ 1 = ap unset (vs.free v low high free) in
+    let some : unset (sign_at ss v) ≤ sum_by unset ss = get_or-le-sum_by unset ss (v - 1) (pos 0) (omega (arith, vs.count)) in
     omega (arith, p.blanks)
 
-pub placed_more : (n : ℕ) (es : List Assigned) (ps : List ℕ) (ts : List Bool) (a : Assigned) (m : ℕ) → IsPlaced n es ps ts
-    → IsWithin n a.lit → IsFree es a.lit.var → m ≡ length es + 1
-    → IsPlaced n (es ++ a ∷ []) (set ps a.lit.var m) (set ts (code_of a.lit) true)
-placed_more n es ps ts a m p w free is =
+-- the entries as they lie, with one more
+pub laid_push : (os : List Origin) (ls : List Literal) (v : ℕ) (o : Origin) (l : Literal) → v < length os → l.var ≡ v
+    → IsFree (laid_entries os ls) v → laid_entries (set os v o) (ls ++ l ∷ [])
+    ≡ laid_entries os ls ++ record { lit = l; level = o.level; reason = o.reason } ∷ []
+laid_push os ls v o l within is free =
+    let qs = set os v o in
+    let old : laid_entries qs ls ≡ laid_entries os ls =
+    ext_get_or no_entry (laid_entries qs ls) (laid_entries os ls) (count_laid qs ls ∙ sym (count_laid os ls))
+    (λ j lt.
+    let inside : j < length ls = omega (arith, count_laid qs ls) in
+    let m = get_or ls j no_literal in
+    let at : assigned_at (laid_entries os ls) j ≡ laid_entry os m = laid_at os ls j inside in
+    let apart : m.var ≢ v =
+    λ e. free j (omega (arith, count_laid os ls)) (ap (λ (x : Assigned). x.lit.var) at ∙ e) in
+    laid_at qs ls j inside
+    ∙ ap (λ (q : Origin). (let e : Assigned = record { lit = m; level = q.level; reason = q.reason } in e))
+    (get_or-set_other os v m.var o no_origin apart)
+    ∙ sym at) in
+    let new : origin_at qs l.var ≡ o = ap (λ (u : ℕ). origin_at qs u) is ∙ get_or-set_same os v o no_origin within in
+    map_push (laid_entry qs) ls l
+    ∙ ap (λ (es : List Assigned). es ++ laid_entry qs l ∷ []) old
+    ∙ ap (λ (q : Origin). laid_entries os ls ++ record { lit = l; level = q.level; reason = q.reason } ∷ []) new
+
+placed_more : (n : ℕ) (es : List Assigned) (os : List Origin) (ss : List ℤ) (a : Assigned) (o : Origin) → IsPlaced n es os ss
+    → AreValues n es ss → IsWithin n a.lit → IsFree es a.lit.var → o.place ≡ length es
+    → IsPlaced n (es ++ a ∷ []) (set os a.lit.var o) (set ss (a.lit.var - 1) (sign_of a.lit))
+placed_more n es os ss a o p vs w free is =
     let v = a.lit.var in
-    let c = code_of a.lit in
+    let i = v - 1 in
+    let x = sign_of a.lit in
     let es' = es ++ a ∷ [] in
-    let ps' = set ps v m in
-    let ts' = set ts c true in
+    let os' = set os v o in
+    let ss' = set ss i x in
     let size : length es' ≡ length es + 1 = length_push es a in
-    let in_ps : v < length ps = omega (arith, p.places_count, w.high) in
-    let in_ts : c < length ts = omega (arith, p.truth_count, code_within n a.lit w) in
-    let same : get_or ps' v 0 ≡ m = get_or-set_same ps v m 0 in_ps in
-    let other : (u : ℕ) → u ≢ v → get_or ps' u 0 ≡ get_or ps u 0 = λ u ne. get_or-set_other ps v u m 0 ne in
+    let in_os : v < length os = omega (arith, p.count, w.high) in
+    let in_ss : i < length ss = omega (arith, vs.count, w.low, w.high) in
     record {
       within = each (λ k e. IsWithin n e.lit) es a p.within w;
-      places_count = length-set ps v m ∙ p.places_count;
-      truth_count = length-set ts c true ∙ p.truth_count;
-      placed = each (λ k e. get_or ps' e.lit.var 0 ≡ k + 1) es a
-          (λ k within. other (assigned_at es k).lit.var (free k within) ∙ p.placed k within)
-          (same ∙ is);
-      found = λ u some. ⊎_elim
+      count = length-set os v o ∙ p.count;
+      placed = each (λ k e. (origin_at os' e.lit.var).place ≡ k) es a
+          (λ k within. ap (λ (q : Origin). q.place) (get_or-set_other os v (assigned_at es k).lit.var o no_origin (free k within))
+          ∙ p.placed k within)
+          (ap (λ (q : Origin). q.place) (get_or-set_same os v o no_origin in_os) ∙ is);
+      found = λ u low some. ⊎_elim
           (λ (at : u ≡ v).
-          let place : get_or ps' u 0 ≡ m = ap (λ z. get_or ps' z 0) at ∙ same in (
-            omega (arith, place, size, is),
-            ap (λ z. (assigned_at es' (z - 1)).lit.var) place ∙ ap (λ e. e.lit.var) (at_new es a (m - 1) (omega (arith, is))) ∙ sym at,
-          ))
-          (λ (ne : u ≢ v).
-          let place : get_or ps' u 0 ≡ get_or ps u 0 = other u ne in
-          let f = p.found u (omega (arith, place, some)) in (
-            omega (arith, place, size, f.0),
-            ap (λ z. (assigned_at es' (z - 1)).lit.var) place
-                ∙ ap (λ e. e.lit.var) (at_old es a (get_or ps u 0 - 1) (omega (arith, f.0, place, some))) ∙ f.1,
-          ))
-          (cases_eq u v);
-      true_at = each (λ k e. get_or ts' (code_of e.lit) false ≡ true) es a
-          (λ k within. still_true ts c (code_of (assigned_at es k).lit) in_ts (p.true_at k within))
-          (get_or-set_same ts c true false in_ts);
-      only_true = λ l read. ⊎_elim
-          (λ (at : code_of l ≡ c).
-          record {
+          let h : HasVariable es' u = record {
             place = length es;
             within = omega (arith, size);
-            lit = ap (λ e. e.lit) (at_new es a (length es) refl) ∙ sym (same_code l a.lit at);
-          })
-          (λ (ne : code_of l ≢ c).
-          let h = p.only_true l (sym (get_or-set_other ts c (code_of l) true false ne) ∙ read) in
-          record { place = h.place; within = omega (arith, size, h.within); lit = ap (λ e. e.lit) (at_old es a h.place h.within) ∙ h.lit })
-          (cases_eq (code_of l) c);
+            var = ap (λ (e : Assigned). e.lit.var) (at_new es a (length es) refl) ∙ sym at;
+          } in h)
+          (λ (ne : u ≢ v).
+          let same : sign_at ss' u ≡ sign_at ss u =
+          get_or-set_other ss i (u - 1) x (pos 0) (λ e. ne (omega (arith, e, low, w.low))) in
+          let h = p.found u low (λ none. some (same ∙ none)) in
+          let g : HasVariable es' u = record {
+            place = h.place;
+            within = omega (arith, size, h.within);
+            var = ap (λ (e : Assigned). e.lit.var) (at_old es a h.place h.within) ∙ h.var;
+          } in g)
+          (cases_eq u v);
       blanks =
-          let change = sum_by-set blank ps v m 0 in_ps in
-          let was : blank (get_or ps v 0) ≡ 1 = ap blank (blank_of_free n es ps ts v p free) in
-          let now : blank m ≡ 0 = blank_of_some m (omega (arith, is)) in
-          omega (arith, change, was, now, size, p.blanks);
+          let change = sum_by-set unset ss i x (pos 0) in_ss in
+          let was : unset (sign_at ss v) ≡ 1 = ap unset (vs.free v w.low w.high free) in
+          omega (arith, change, was, unset_of_sign a.lit, size, p.blanks);
     }
 
 pub values_more : (n : ℕ) (es : List Assigned) (ss : List ℤ) (a : Assigned) → AreValues n es ss
@@ -178,21 +173,60 @@ leveled_more es a level h low high =
       empty = λ none. absurd (omega arith);
     }
 
-tables_more : (n : ℕ) (es : List Assigned) (ps : List ℕ) (ts : List Bool) (ss : List ℤ) (free : ℕ) (a : Assigned) (m : ℕ)
-    → AreTables n es ps ts ss free → IsWithin n a.lit → IsFree es a.lit.var → m ≡ length es + 1
-    → AreTables n (es ++ a ∷ []) (set ps a.lit.var m) (set ts (code_of a.lit) true) (set ss (a.lit.var - 1) (sign_of a.lit)) free
-tables_more n es ps ts ss free a m h w none is = record {
-  placed = placed_more n es ps ts a m h.placed w none is;
+still_true : (ts : List Bool) (c d : ℕ) → c < length ts → get_or ts d false ≡ true → get_or (set ts c true) d false ≡ true
+still_true ts c d within was =
+    ⊎_elim
+    (λ (at : d ≡ c). ap (λ n. get_or (set ts c true) n false) at ∙ get_or-set_same ts c true false within)
+    (λ (other : d ≢ c). get_or-set_other ts c d true false other ∙ was)
+    (cases_eq d c)
+
+marks_more : (n : ℕ) (es : List Assigned) (ts : List Bool) (a : Assigned) → AreMarks n es ts → IsWithin n a.lit
+    → AreMarks n (es ++ a ∷ []) (set ts (code_of a.lit) true)
+marks_more n es ts a m w =
+    let c = code_of a.lit in
+    let ts' = set ts c true in
+    let es' = es ++ a ∷ [] in
+    let in_ts : c < length ts = omega (arith, m.count, code_within n a.lit w) in
+    record {
+      count = length-set ts c true ∙ m.count;
+      true_at = each (λ k e. get_or ts' (code_of e.lit) false ≡ true) es a
+          (λ k within. still_true ts c (code_of (assigned_at es k).lit) in_ts (m.true_at k within))
+          (get_or-set_same ts c true false in_ts);
+      only_true = λ l read. ⊎_elim
+          (λ (at : code_of l ≡ c).
+          let h : HasLiteral es' l = record {
+            place = length es;
+            within = omega (arith, length_push es a);
+            lit = ap (λ (e : Assigned). e.lit) (at_new es a (length es) refl) ∙ sym (same_code l a.lit at);
+          } in h)
+          (λ (ne : code_of l ≢ c).
+          let h = m.only_true l (sym (get_or-set_other ts c (code_of l) true false ne) ∙ read) in
+          let g : HasLiteral es' l = record {
+            place = h.place;
+            within = omega (arith, length_push es a, h.within);
+            lit = ap (λ (e : Assigned). e.lit) (at_old es a h.place h.within) ∙ h.lit;
+          } in g)
+          (cases_eq (code_of l) c);
+    }
+
+tables_more : (n : ℕ) (es : List Assigned) (os : List Origin) (ts : List Bool) (ss : List ℤ) (free : ℕ) (a : Assigned) (o : Origin)
+    → AreTables n es os ts ss free → IsWithin n a.lit → IsFree es a.lit.var → o.place ≡ length es
+    → AreTables n (es ++ a ∷ []) (set os a.lit.var o) (set ts (code_of a.lit) true) (set ss (a.lit.var - 1) (sign_of a.lit)) free
+tables_more n es os ts ss free a o h w none is = record {
+  placed = placed_more n es os ss a o h.placed h.values w none is;
+  marks = marks_more n es ts a h.marks w;
   values = values_more n es ss a h.values h.placed.within w none;
   cursor = h.cursor;
   before = λ u some lt. ⊎_elim
       (λ (at : u ≡ a.lit.var).
-      let read : get_or (set ps a.lit.var m) u 0 ≡ m =
-      ap (λ z. get_or (set ps a.lit.var m) z 0) at
-      ∙ get_or-set_same ps a.lit.var m 0 (omega (arith, h.placed.places_count, w.high)) in
-      omega (arith, read, is))
+      let read : sign_at (set ss (a.lit.var - 1) (sign_of a.lit)) u ≡ sign_of a.lit =
+      ap (λ (z : ℕ). sign_at (set ss (a.lit.var - 1) (sign_of a.lit)) z) at
+      ∙ get_or-set_same ss (a.lit.var - 1) (sign_of a.lit) (pos 0) (omega (arith, h.values.count, w.low, w.high)) in
+      λ none. sign_is_set a.lit (sym read ∙ none))
       (λ (ne : u ≢ a.lit.var).
-      omega (arith, get_or-set_other ps a.lit.var u m 0 ne, h.before u some lt))
+      let same : sign_at (set ss (a.lit.var - 1) (sign_of a.lit)) u ≡ sign_at ss u =
+      get_or-set_other ss (a.lit.var - 1) (u - 1) (sign_of a.lit) (pos 0) (λ e. ne (omega (arith, e, some, w.low))) in
+      λ none. h.before u some lt (sym same ∙ none))
       (cases_eq u a.lit.var);
 }
 
@@ -277,14 +311,14 @@ put_is es starts a h s low high =
     )) in
     record { leveled = both.0; started = both.1 }
 
-held_more : (n : ℕ) (es : List Assigned) (starts : List ℕ) (gone : ℕ) (ps : List ℕ) (ts : List Bool) (ss : List ℤ)
-    (free cap level_cap : ℕ) (a : Assigned) (m : ℕ) → IsHeld n es starts gone ps ts ss free cap level_cap
-    → IsWithin n a.lit → IsFree es a.lit.var → length starts ≤ a.level → a.level ≤ length starts + 1 → m ≡ length es + 1
-    → IsHeld n (es ++ a ∷ []) (opened starts a.level (length es)) gone (set ps a.lit.var m) (set ts (code_of a.lit) true)
+held_more : (n : ℕ) (es : List Assigned) (starts : List ℕ) (gone : ℕ) (os : List Origin) (ts : List Bool) (ss : List ℤ)
+    (free cap level_cap : ℕ) (a : Assigned) (o : Origin) → IsHeld n es starts gone os ts ss free cap level_cap
+    → IsWithin n a.lit → IsFree es a.lit.var → length starts ≤ a.level → a.level ≤ length starts + 1 → o.place ≡ length es
+    → IsHeld n (es ++ a ∷ []) (opened starts a.level (length es)) gone (set os a.lit.var o) (set ts (code_of a.lit) true)
     (set ss (a.lit.var - 1) (sign_of a.lit)) free cap level_cap
-held_more n es starts gone ps ts ss free cap level_cap a m h w none low high is =
+held_more n es starts gone os ts ss free cap level_cap a o h w none low high is =
     let put = put_is es starts a h.leveled h.started low high in record {
-      tables = tables_more n es ps ts ss free a m h.tables w none is;
+      tables = tables_more n es os ts ss free a o h.tables w none is;
       leveled = put.leveled;
       started = put.started;
       within = omega (arith, h.within, length_push es a);
@@ -293,22 +327,67 @@ held_more n es starts gone ps ts ss free cap level_cap a m h w none low high is 
       vars_limit = h.vars_limit;
     }
 
--- the same, from what the calls say of the fields
-pub held_put : (n : ℕ) (es : List Assigned) (starts : List ℕ) (gone : ℕ) (ps : List ℕ) (ts : List Bool) (ss : List ℤ)
-    (free cap level_cap : ℕ) (a : Assigned) (m v c : ℕ) (x : ℤ) (es' : List Assigned) (starts' : List ℕ) (start cap' level_cap' : ℕ)
-    → IsHeld n es starts gone ps ts ss free cap level_cap
-    → IsWithin n a.lit → IsFree es a.lit.var → length starts ≤ a.level → a.level ≤ length starts + 1 → m ≡ length es + 1
-    → es' ≡ es ++ a ∷ [] → starts' ≡ opened starts a.level start → start ≡ length es
-    → v ≡ a.lit.var → c ≡ code_of a.lit → x ≡ sign_of a.lit → cap' ≡ cap → level_cap' ≡ level_cap
-    → IsHeld n es' starts' gone (set ps v m) (set ts c true) (set ss (v - 1) x) free cap' level_cap'
-held_put n es starts gone ps ts ss free cap level_cap a m v c x es' starts' start cap' level_cap' h w none low high count entries
-    opens from var code sign room level_room =
-    rw (entries, opens, from, var, code, sign, room, level_room)
-    (held_more n es starts gone ps ts ss free cap level_cap a m h w none low high count)
-
 -- the present level after it
-pub level_put : (starts : List ℕ) (level start : ℕ) → length starts ≤ level → level ≤ length starts + 1
+level_put : (starts : List ℕ) (level start : ℕ) → length starts ≤ level → level ≤ length starts + 1
     → length (opened starts level start) ≡ level
 level_put starts level start low high =
     opened_cases starts level start (λ (ss : List ℕ). length ss ≡ level) low high (λ same. sym same)
     (λ next. length_push starts start ∙ sym next)
+
+-- what a literal that is put behind has to meet
+pub record CanPut (n : ℕ) (es : List Assigned) (starts : List ℕ) (l : Literal) (level : ℕ) : Type 0 where
+  pub within : IsWithin n l
+  pub free : IsFree es l.var
+  pub low : length starts ≤ level
+  pub high : level ≤ length starts + 1
+
+pub can_put : (n : ℕ) (es : List Assigned) (starts : List ℕ) (gone : ℕ) (l : Literal) (level : ℕ) (t : TrailState)
+    → state_of es starts gone n ≡ t → IsWithin t.vars l → IsFree t.entries l.var → (t.level ≤ level) × (level ≤ t.level + 1)
+    → CanPut n es starts l level
+can_put n es starts gone l level t is within free levels = record {
+  within = subst (λ (u : TrailState). IsWithin u.vars l) (sym is) within;
+  free = subst (λ (u : TrailState). IsFree u.entries l.var) (sym is) free;
+  low = subst (λ (u : TrailState). u.level ≤ level) (sym is) levels.0;
+  high = subst (λ (u : TrailState). level ≤ u.level + 1) (sym is) levels.1;
+}
+
+-- there is room for it
+pub room_to_put : (n : ℕ) (os : List Origin) (ls : List Literal) (starts : List ℕ) (gone : ℕ) (ts : List Bool) (ss : List ℤ)
+    (free cap level_cap : ℕ) (l : Literal) (level : ℕ) → IsHeld n (laid_entries os ls) starts gone os ts ss free cap level_cap
+    → CanPut n (laid_entries os ls) starts l level → (length ls < cap) × (length starts < level_cap)
+room_to_put n os ls starts gone ts ss free cap level_cap l level h can =
+    let es = laid_entries os ls in
+    let left : length es < n = room_left n es os ss l.var h.tables.placed h.tables.values can.within.low can.within.high can.free in (
+      omega (arith, left, count_laid os ls, h.room),
+      omega (arith, left, deep es (length starts) h.leveled, h.level_room),
+    )
+
+-- the same, from what the calls say of the fields
+pub held_put : (n : ℕ) (os : List Origin) (ls : List Literal) (starts : List ℕ) (gone : ℕ) (ts : List Bool) (ss : List ℤ)
+    (free cap level_cap : ℕ) (l : Literal) (o : Origin) (v c : ℕ) (x : ℤ) (ls' : List Literal) (starts' : List ℕ) (cap' level_cap' : ℕ)
+    → IsHeld n (laid_entries os ls) starts gone os ts ss free cap level_cap → CanPut n (laid_entries os ls) starts l o.level
+    → o.place ≡ length ls → ls' ≡ ls ++ l ∷ [] → starts' ≡ opened starts o.level o.place
+    → v ≡ l.var → c ≡ code_of l → x ≡ sign_of l → cap' ≡ cap → level_cap' ≡ level_cap
+    → IsHeld n (laid_entries (set os v o) ls') starts' gone (set os v o) (set ts c true) (set ss (v - 1) x) free cap' level_cap'
+    × (state_of (laid_entries (set os v o) ls') starts' gone n
+    ≡ with_entry (state_of (laid_entries os ls) starts gone n) l o.level o.reason)
+held_put n os ls starts gone ts ss free cap level_cap l o v c x ls' starts' cap' level_cap' h can place lits opens var code sign
+    room level_room =
+    let es = laid_entries os ls in
+    let a : Assigned = record { lit = l; level = o.level; reason = o.reason } in
+    let at : o.place ≡ length es = place ∙ sym (count_laid os ls) in
+    let within : l.var < length os = omega (arith, h.tables.placed.count, can.within.high) in
+    let laid : laid_entries (set os l.var o) (ls ++ l ∷ []) ≡ es ++ a ∷ [] = laid_push os ls l.var o l within refl can.free in
+    let held : IsHeld n (es ++ a ∷ []) (opened starts o.level (length es)) gone (set os l.var o) (set ts (code_of l) true)
+    (set ss (l.var - 1) (sign_of l)) free cap level_cap =
+    held_more n es starts gone os ts ss free cap level_cap a o h can.within can.free can.low can.high at in
+    let levels : length (opened starts o.level (length es)) ≡ o.level = level_put starts o.level (length es) can.low can.high in
+    let view : state_of (laid_entries (set os l.var o) (ls ++ l ∷ [])) (opened starts o.level (length es)) gone n
+    ≡ with_entry (state_of es starts gone n) l o.level o.reason =
+    ap (λ (fs : List Assigned). state_of fs (opened starts o.level (length es)) gone n) laid
+    ∙ ap (λ (level : ℕ). (let t : TrailState = record { entries = es ++ a ∷ []; gone = gone; level = level; vars = n } in t)) levels in
+    rw (lits, opens ∙ ap (λ (start : ℕ). opened starts o.level start) at, var, code, sign, room, level_room) (
+      subst (λ (fs : List Assigned). IsHeld n fs (opened starts o.level (length es)) gone (set os l.var o)
+          (set ts (code_of l) true) (set ss (l.var - 1) (sign_of l)) free cap level_cap) (sym laid) held,
+      view,
+    )

@@ -1,7 +1,7 @@
 //! The trail of a search: which literals were made true, in order, with their levels and reasons.
 //!
-//! Contracts see a [`Trail`] as its list of entries with three numbers (`specs/Trails`). `specs/Tables`
-//! says what it keeps beside them. Only [`Trail::new`] takes memory.
+//! Contracts see a [`Trail`] as its list of entries with three numbers (`specs/Trails`). `specs/Steps/Tables`
+//! says how they lie. Only [`Trail::new`] takes memory.
 #![tactic(auto)]
 
 mod entry;

@@ -49,8 +49,10 @@ fn a_root_literal_gets_a_unit_as_its_reason(rt: HostRuntime) -> Result<(), Fail>
     let lit = Lit::new(2, false);
     let because = Reason::Clause(ClauseRef::at(0));
     trail.push(lit, because);
-    trail.push(Lit::new(3, true), because);
+    let other = Lit::new(3, true);
+    trail.push(other, because);
     trail.root(2, 41);
+    assert!(rt; is_set(&trail, lit) && is_set(&trail, other));
     assert_eq!(rt; trail.reason_of(2), Reason::Unit(41));
     assert_eq!(rt; trail.reason_of(3), because);
     assert_eq!(rt; (trail.level_of(2), trail.place_of(2)), (0, 0));
@@ -84,6 +86,11 @@ fn going_back_frees_the_variables_of_higher_levels(rt: HostRuntime) -> Result<()
     );
     assert!(rt; trail.len() == 2);
     assert_eq!(rt; trail.lit_at(1).number(), -3);
+    let kept = trail.entry(1);
+    assert_eq!(rt;
+        (kept.lit.number(), kept.level, kept.reason),
+        (-3, 1, because)
+    );
     for number in [4, 1] {
         assign(&rt, &mut trail, number, Reason::Decision)?;
     }

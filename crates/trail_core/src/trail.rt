@@ -1,9 +1,9 @@
-ghost use Rattle.std.specs.Prelude.{◌≡◌, ◌↔◌, ◌+◌, ◌<◌, ◌≤◌, ◌-◌, ◌^◌, ℕ, pos, false, length, slice_index, slice_set, if◌then◌else◌, IfOk};
+ghost use Rattle.std.specs.Prelude.{◌≡◌, ◌≢◌, ◌↔◌, ◌+◌, ◌<◌, ◌≤◌, ◌-◌, ◌^◌, ℕ, pos, false, length, slice_set, if◌then◌else◌, IfOk};
 ghost use Rattle.std.specs.Prelude.{IfSome, IfNone, MatchOption, IsTrue};
 ghost use Rattle.cnf_core.specs.Literals.{IsWithin, negated, code_of};
 ghost use Rattle.trail_core.specs.Trails.{assigned_at, HasLiteral, HasVariable, IsFree, IsTrail, empty_trail, with_entry, with_root};
 ghost use Rattle.trail_core.specs.Trails.{IsBacktracked, AreValues, sign_of, IsFirstFree};
-ghost use Rattle.trail_core.specs.Steps.Tables.{opened};
+ghost use Rattle.trail_core.specs.Steps.Tables.{opened, sign_at};
 ghost use Rattle.std.specs.Vec.{vec_len, vec_capacity};
 ghost use Rattle.trail_core.specs.declared.entry.Reason.TheVariants.{Decision};
 
@@ -12,21 +12,31 @@ use cnf_core::{Lit, NoMemory};
 use std::alloc::Global;
 use std::marker::Model;
 
+/// What a variable's entry says beside its literal, and where the entry stands. Where the variable has no
+/// value it is out of date.
+#[derive(Clone, Copy, Debug)]
+struct Origin {
+    level: u32,
+    place: u32,
+    reason: Reason,
+}
+
 /// The literals that are true, in the order of their coming, with their levels and reasons.
 ///
-/// The value of a literal is one read of a table by its packed form; a variable's entry is found by a
-/// table of places, and the first entry of a level by a table of starts.
+/// The value of a literal is one read of a table by its packed form; level, place and reason of a variable
+/// lie side by side; the first entry of a level is found by a table of starts.
 #[derive(Debug, Drop)]
 pub struct Trail {
-    entries: Vec<Assigned>,
-    /// How many entries there were when each level from 1 on was opened.
-    starts: Vec<u32>,
-    /// Where each variable's entry stands, counted from 1; 0 where it has none.
-    places: Vec<u32>,
+    /// The literal of each entry.
+    lits: Vec<Lit>,
+    /// Where each variable's value comes from.
+    origins: Vec<Origin>,
     /// Which packed literals are true.
     truth: Vec<bool>,
     /// 1, -1 or 0 per variable.
     signs: Vec<i8>,
+    /// How many entries there were when each level from 1 on was opened.
+    starts: Vec<u32>,
     gone: u32,
     /// No variable before it is without a value.
     free: u32,
@@ -35,16 +45,16 @@ pub struct Trail {
 
 impl Model for Trail {
     ghost use Rattle.trail_core.specs.Trails.{TrailState};
-    ghost use Rattle.trail_core.specs.Steps.Tables.{IsHeld, state_of};
+    ghost use Rattle.trail_core.specs.Steps.Tables.{IsHeld, laid_entries, state_of};
     ghost use Rattle.std.specs.Vec.{vec_capacity};
 
     ghost Value = { TrailState };
 
-    ghost view = { λ t. state_of t.entries.items t.starts.items t.gone t.vars };
+    ghost view = { λ t. state_of (laid_entries t.origins.items t.lits.items) t.starts.items t.gone t.vars };
 
     ghost invariant = { λ t.
-        IsHeld t.vars t.entries.items t.starts.items t.gone t.places.items t.truth.items
-        t.signs.items t.free (vec_capacity t.entries) (vec_capacity t.starts) };
+        IsHeld t.vars (laid_entries t.origins.items t.lits.items) t.starts.items t.gone t.origins.items t.truth.items
+        t.signs.items t.free (vec_capacity t.lits) (vec_capacity t.starts) };
 }
 
 /// The sign of a literal: 1, and -1 for a negation.
@@ -69,15 +79,12 @@ fn open(starts: &mut Vec<u32>, level: u32, count: u32)
 
 /// Takes a literal's value out of the tables.
 #[inline(always)]
-fn erase(places: &mut Vec<u32>, truth: &mut Vec<bool>, signs: &mut Vec<i8>, lit: Lit)
-    requires places { lit.var < vec_len places.old }
+fn erase(truth: &mut Vec<bool>, signs: &mut Vec<i8>, lit: Lit)
     requires truth { code_of lit < vec_len truth.old }
     requires signs { lit.var - 1 < vec_len signs.old }
-    ensures places { places.new.items ≡ slice_set places.old.items lit.var 0 }
     ensures truth { truth.new.items ≡ slice_set truth.old.items (code_of lit) false }
     ensures signs { signs.new.items ≡ slice_set signs.old.items (lit.var - 1) (pos 0) }
 {
-    places[lit.var() as usize] = 0;
     truth[lit.code() as usize] = false;
     signs[lit.var() as usize - 1] = 0;
 }
@@ -89,12 +96,17 @@ impl Trail {
         ensures { IfOk result (λ t. t ≡ empty_trail vars) }
     {
         let count = vars as usize;
+        let none = Origin {
+            level: 0,
+            place: 0,
+            reason: Reason::Decision,
+        };
         Ok(Trail {
-            entries: Vec::with_capacity(alloc, count)?,
-            starts: Vec::with_capacity(alloc, count)?,
-            places: vec![in alloc; 0; count + 1]?,
+            lits: Vec::with_capacity(alloc, count)?,
+            origins: vec![in alloc; none; count + 1]?,
             truth: vec![in alloc; false; 2 * count + 2]?,
             signs: vec![in alloc; 0; count]?,
+            starts: Vec::with_capacity(alloc, count)?,
             gone: 0,
             free: 1,
             vars,
@@ -107,7 +119,7 @@ impl Trail {
         requires free { IsFree self.old.entries lit.var }
         ensures { self.new ≡ with_entry self.old lit (self.old.level + 1) Decision }
     {
-        self.free = next_free(&self.places, self.free);
+        self.free = next_free(&self.signs, self.free);
         let level = self.level() + 1;
         self.put(lit, level, Reason::Decision);
     }
@@ -132,9 +144,14 @@ impl Trail {
         ensures { self.new ≡ with_entry self.old lit level reason }
     {
         let var = lit.var() as usize;
-        open(&mut self.starts, level, self.entries.len() as u32);
-        self.entries.push_reserved(Assigned { lit, level, reason });
-        self.places[var] = self.entries.len() as u32;
+        let place = self.lits.len() as u32;
+        open(&mut self.starts, level, place);
+        self.lits.push_reserved(lit);
+        self.origins[var] = Origin {
+            level,
+            place,
+            reason,
+        };
         self.truth[lit.code() as usize] = true;
         self.signs[var - 1] = sign(lit);
     }
@@ -147,8 +164,7 @@ impl Trail {
         ensures { (k : ℕ) → k < length self.old.entries → (assigned_at self.old.entries k).lit.var ≡ var
             → self.new ≡ with_root self.old k id }
     {
-        let place = self.places[var as usize] as usize - 1;
-        self.entries[place].reason = Reason::Unit(id);
+        self.origins[var as usize].reason = Reason::Unit(id);
     }
 
     /// Takes away the entries of the levels above this one, which is at most the present level. No more
@@ -161,11 +177,11 @@ impl Trail {
             return;
         }
         let start = self.starts[level as usize];
-        while self.entries.len() > start as usize {
-            let count = self.entries.len() - 1;
-            let lit = self.entries[count].lit;
-            self.entries.truncate(count);
-            erase(&mut self.places, &mut self.truth, &mut self.signs, lit);
+        while self.lits.len() > start as usize {
+            let count = self.lits.len() - 1;
+            let lit = self.lits[count];
+            self.lits.truncate(count);
+            erase(&mut self.truth, &mut self.signs, lit);
             self.free = self.free.min(lit.var());
         }
         self.starts.truncate(level as usize);
@@ -225,7 +241,7 @@ impl Trail {
         ensures { (k : ℕ) → k < length self.now.entries → (assigned_at self.now.entries k).lit.var ≡ var
             → result ≡ (assigned_at self.now.entries k).level }
     {
-        self.entries[self.places[var as usize] as usize - 1].level
+        self.origins[var as usize].level
     }
 
     /// The reason of a variable's entry. The variable has a value.
@@ -234,7 +250,7 @@ impl Trail {
         ensures { (k : ℕ) → k < length self.now.entries → (assigned_at self.now.entries k).lit.var ≡ var
             → result ≡ (assigned_at self.now.entries k).reason }
     {
-        self.entries[self.places[var as usize] as usize - 1].reason
+        self.origins[var as usize].reason
     }
 
     /// The place of a variable's entry, from 0. The variable has a value.
@@ -244,7 +260,7 @@ impl Trail {
             → result ≡ k }
         ensures trail { IsTrail self.now }
     {
-        self.places[var as usize] - 1
+        self.origins[var as usize].place
     }
 
     /// The present level: how many decisions are on the trail.
@@ -261,7 +277,7 @@ impl Trail {
         ensures value { result ≡ length self.now.entries }
         ensures trail { IsTrail self.now }
     {
-        self.entries.len() as u32
+        self.lits.len() as u32
     }
 
     /// How many variables the trail was made for.
@@ -278,14 +294,21 @@ impl Trail {
         requires { i < length self.now.entries }
         ensures { result ≡ (assigned_at self.now.entries i).lit }
     {
-        self.entries[i as usize].lit
+        self.lits[i as usize]
     }
 
-    /// The entries, in the order of their coming.
-    pub fn entries(&self) -> &[Assigned]
-        ensures { result.now ≡ self.now.entries }
+    /// The entry at this place, from 0.
+    pub fn entry(&self, i: u32) -> Assigned
+        requires { i < length self.now.entries }
+        ensures { result ≡ assigned_at self.now.entries i }
     {
-        &self.entries
+        let lit = self.lits[i as usize];
+        let origin = self.origins[lit.var() as usize];
+        Assigned {
+            lit,
+            level: origin.level,
+            reason: origin.reason,
+        }
     }
 
     /// The least variable without a value; none exactly where each one has a value.
@@ -293,20 +316,20 @@ impl Trail {
         ensures some { IfSome result (λ v. IsFirstFree self.now v) }
         ensures none { IfNone result ((u : ℕ) → 0 < u → u ≤ self.now.vars → HasVariable self.now.entries u) }
     {
-        let free = next_free(&self.places, self.free);
+        let free = next_free(&self.signs, self.free);
         if free <= self.vars { Some(free) } else { None }
     }
 }
 
-/// The first variable from this one on that has no place, or the table's length.
-fn next_free(places: &Vec<u32>, from: u32) -> u32
-    requires { (from ≤ vec_len places.now) × (vec_len places.now < 2 ^ 32) }
-    ensures bounds { (from ≤ result) × (result ≤ vec_len places.now) }
-    ensures blank { result < vec_len places.now → slice_index places.now.items result ≡ 0 }
-    ensures passed { (u : ℕ) → from ≤ u → u < result → 0 < slice_index places.now.items u }
+/// The first variable from this one on without a value, or the one behind the last.
+fn next_free(signs: &Vec<i8>, from: u32) -> u32
+    requires { (0 < from) × (from ≤ vec_len signs.now + 1) × (vec_len signs.now < 2 ^ 21) }
+    ensures bounds { (from ≤ result) × (result ≤ vec_len signs.now + 1) }
+    ensures unset { result ≤ vec_len signs.now → sign_at signs.now.items result ≡ pos 0 }
+    ensures passed { (u : ℕ) → from ≤ u → u < result → sign_at signs.now.items u ≢ pos 0 }
 {
     let mut var = from;
-    while (var as usize) < places.len() && places[var as usize] != 0 {
+    while (var as usize) <= signs.len() && signs[var as usize - 1] != 0 {
         var += 1;
     }
     var

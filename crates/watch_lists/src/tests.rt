@@ -148,16 +148,21 @@ fn attach_two(
     Ok(r)
 }
 
+/// The place of the clause that is the reason.
+fn clause_place(reason: Reason) -> Option<u32> {
+    match reason {
+        Reason::Clause(r) => Some(r.place()),
+        _ => None,
+    }
+}
+
 /// The trail's literals, with their levels and the places of the clauses that are their reasons.
 fn listing(rt: &impl Abort, trail: &Trail) -> [(i32, u32, Option<u32>); 3] {
     let mut list = [(0, 0, None); 3];
-    for (i, entry) in trail.entries().iter().enumerate() {
+    for i in 0..trail.len() {
         assert!(rt; i < 3);
-        let reason = match entry.reason {
-            Reason::Clause(r) => Some(r.place()),
-            _ => None,
-        };
-        list[i] = (entry.lit.number(), entry.level, reason);
+        let entry = trail.entry(i);
+        list[i as usize] = (entry.lit.number(), entry.level, clause_place(entry.reason));
     }
     list
 }

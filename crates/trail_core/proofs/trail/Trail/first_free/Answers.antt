@@ -7,7 +7,7 @@ pub returns-then-free-self-clause-some : goal.returns-then-free-self-clause-some
 returns-then-free-self-clause-some c =
     subst (λ t. IsFirstFree t c.next_free-free.result) c.self.view_is
     (first_free_is _ _ _ _ _ _ c.self.invariant.tables c.next_free-free.ensures.bounds.0 c.if-free-self.true
-    (c.next_free-free.ensures.blank (omega (arith, c.self.invariant.tables.placed.places_count, c.if-free-self.true)))
+    (c.next_free-free.ensures.unset (omega (arith, c.self.invariant.tables.values.count, c.if-free-self.true)))
     c.next_free-free.ensures.passed)
 
 pub returns-else-free-self-clause-none : goal.returns-else-free-self-clause-none
