@@ -76,6 +76,12 @@ impl Analyser {
         self.walk.learn(arena, trail, conflict)
     }
 
+    /// The variables above the root that the last [`Analyser::analyse`] met, each once, in the order of meeting:
+    /// those that a chooser is told of.
+    pub fn seen(&self) -> &[u32] {
+        self.walk.seen()
+    }
+
     /// The hints that prove the empty clause, where a live clause is false at the root.
     pub fn refute_root(
         &mut self,

@@ -8,8 +8,9 @@ ghost use Rattle.conflict_analysis.specs.Examples.{ExamplesAreReady};
 
 use crate::{Analyser, Learnt};
 use clause_arena::{Arena, ClauseRef};
-use cnf_core::{Lit, NoMemory};
-use lrat_lines::Ids;
+use cnf_core::{Formula, Lit, NoMemory};
+use lrat_checker::Checker;
+use lrat_lines::{Ids, Line};
 use std::alloc::{AllocError, Global};
 use std::process::Abort;
 use std::test::Fail;
@@ -195,7 +196,7 @@ fn root_core(rt: &impl Abort, alloc: Global) -> Result<Learnt, NoMemory> {
 /// The clause as DIMACS numbers.
 fn numbers(alloc: Global, learnt: &Learnt) -> Result<Vec<i32>, AllocError> {
     let mut numbers = Vec::new(alloc);
-    for lit in &learnt.lits.lits {
+    for lit in learnt.lits.as_slice() {
         numbers.push(lit.number())?;
     }
     Ok(numbers)
@@ -210,13 +211,26 @@ fn is_answer(
     hints: &[u64],
 ) -> Result<bool, AllocError> {
     let same = numbers(alloc, learnt)?.as_slice() == clause;
-    Ok(same && learnt.back == back && learnt.hints.ids.as_slice() == hints)
+    Ok(same && learnt.back == back && learnt.hints.as_slice() == hints)
+}
+
+/// Whether the separate checker takes the clause as the third line, behind the two clauses of the deep example.
+fn is_taken(alloc: Global, learnt: Learnt) -> Result<bool, Fail> {
+    let formula = Formula::of_numbers(alloc, 3, [-1, -2, 3, 0, -1, -2, -3, 0].as_slice())?;
+    let mut checker = Checker::new(alloc, &formula)?;
+    let line = Line::Add {
+        id: 3,
+        lits: learnt.lits,
+        hints: learnt.hints,
+    };
+    Ok(checker.line(&line).is_ok())
 }
 
 #[test]
 fn a_conflict_below_two_decisions_teaches_that_one_is_wrong(rt: HostRuntime) -> Result<(), Fail> {
     let learnt = deep_learnt(&rt, rt.alloc())?;
     assert!(rt; is_answer(rt.alloc(), shared(&learnt), &[-2, -1], 1, &[1, 2])?);
+    assert!(rt; is_taken(rt.alloc(), learnt)?);
     Ok(())
 }
 
@@ -237,7 +251,7 @@ fn the_core_of_a_literal_below_two_decisions_has_both(rt: HostRuntime) -> Result
 #[test]
 fn a_conflict_at_the_root_is_refuted_from_the_unit_on(rt: HostRuntime) -> Result<(), Fail> {
     let hints = root_hints(&rt, rt.alloc())?;
-    assert!(rt; hints.ids.as_slice() == [3u64, 1, 2].as_slice());
+    assert!(rt; hints.as_slice() == [3u64, 1, 2].as_slice());
     Ok(())
 }
 
@@ -246,7 +260,7 @@ fn a_root_literal_is_shown_by_the_unit_of_the_other_and_its_reason(
     rt: HostRuntime,
 ) -> Result<(), Fail> {
     let hints = root_unit_hints(&rt, rt.alloc())?;
-    assert!(rt; hints.ids.as_slice() == [3u64, 1].as_slice());
+    assert!(rt; hints.as_slice() == [3u64, 1].as_slice());
     Ok(())
 }
 

@@ -37,6 +37,8 @@ pub struct Walk {
     roots: Vec<Lit>,
     /// The ids of what was resolved, the first hint last.
     hints: Vec<u64>,
+    /// The variables above the root that were met, in the order of meeting.
+    seen: Vec<u32>,
     /// How many of the met literals are left to look at: of those of the present level where a clause is
     /// learnt, and of all where reasons are followed down to decisions.
     count: u32,
@@ -75,7 +77,7 @@ fn reason_at(trail: &Trail, place: u32) -> Reason
     requires { place < length trail.now.entries }
     ensures { result ≡ (assigned_at trail.now.entries place).reason }
 {
-    trail.entries()[place as usize].reason
+    trail.entry(place).reason
 }
 
 /// The id of the unit that makes a literal false.
@@ -127,6 +129,7 @@ impl Walk {
             lits: Vec::new(alloc),
             roots: Vec::new(alloc),
             hints: Vec::new(alloc),
+            seen: Vec::new(alloc),
             count: 0,
         })
     }
@@ -208,6 +211,11 @@ impl Walk {
         self.hints_in_order()
     }
 
+    /// The variables above the root that the walk for a clause met.
+    pub fn seen(&self) -> &[u32] {
+        &self.seen
+    }
+
     /// Begins anew: nothing is met or gathered.
     fn start(&mut self)
         ensures started { IsStarted self.new }
@@ -221,6 +229,7 @@ impl Walk {
         self.lits.clear();
         self.roots.clear();
         self.hints.clear();
+        self.seen.clear();
         self.count = 0;
     }
 
@@ -247,6 +256,17 @@ impl Walk {
         ensures size { length self.new.stamps ≡ length self.old.stamps }
     {
         self.lits.push(lit)?;
+        self.seen.push(lit.var())?;
+        Ok(())
+    }
+
+    /// Notes a variable that was met above the root.
+    #[inline(always)]
+    fn note(&mut self, var: u32) -> Result<(), NoMemory>
+        ensures noted { OnOk result (self.new ≡ self.old) }
+        ensures size { length self.new.stamps ≡ length self.old.stamps }
+    {
+        self.seen.push(var)?;
         Ok(())
     }
 
@@ -297,7 +317,7 @@ impl Walk {
         let level = trail.level_of(lit.var());
         if level == trail.level() {
             self.count_up();
-            return Ok(());
+            return self.note(lit.var());
         }
         if level == 0 {
             return self.add_root(lit);

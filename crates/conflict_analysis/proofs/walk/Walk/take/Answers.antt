@@ -11,10 +11,11 @@ count_up-requires c =
 
 pub returns-then-level-clause-taken : goal.returns-then-level-clause-taken
 returns-then-level-clause-taken c =
-    taken_present c.args.trail.now c.args.lit c.args.self.now c.mark.new.self c.count_up.new.self c.var.result
+    on_ok_weaker c.note.result (λ same.
+    taken_present c.args.trail.now c.args.lit c.args.self.now c.mark.new.self c.note.new.self c.var.result
     c.level_of-level.result c.requires
     c.var.ensures.value c.mark.ensures (λ k lt is. c.level_of-level.ensures k lt (is ∙ sym c.var-2.ensures.value))
-    (c.if-level.true ∙ c.level.ensures.value) c.count_up.ensures
+    (c.if-level.true ∙ c.level.ensures.value) (same ∙ c.count_up.ensures)) c.note.ensures.noted
 
 pub returns-then-level-eq0-clause-taken : goal.returns-then-level-eq0-clause-taken
 returns-then-level-eq0-clause-taken c =
