@@ -1,0 +1,4 @@
+pub mod Ends
+pub mod LubyTurns
+pub mod Gathered
+pub mod Choosing

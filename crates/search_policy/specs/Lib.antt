@@ -1,0 +1,4 @@
+pub mod Epochs
+pub mod Luby
+pub mod Removals
+pub mod Steps
