@@ -1,0 +1,5 @@
+pub mod Units
+pub mod Logs
+pub mod SolverStates
+pub mod Answers
+pub mod Steps

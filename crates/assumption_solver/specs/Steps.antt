@@ -1,0 +1,11 @@
+pub mod Plain
+pub mod Searching
+pub mod Asserting
+pub mod Tables
+pub mod Noted
+pub mod Standing
+pub mod Solving
+pub mod Queries
+pub mod Loading
+pub mod States
+pub mod Held
