@@ -1,6 +1,5 @@
-ghost use Rattle.std.specs.Prelude.{◌≡◌, ◌≢◌, ◌+◌, ◌-◌, ◌<◌, ◌≤◌, ◌^◌, length, IfOk, All};
+ghost use Rattle.std.specs.Prelude.{◌≡◌, ◌+◌, ◌<◌, ◌≤◌, ◌^◌, IfOk};
 ghost use Rattle.cnf_core.specs.Literals.{AreWithin};
-ghost use Rattle.search_bench.specs.Plain.{IsPlain};
 
 use cnf_core::{Clause, Formula, Lit, MAX_VARS, NoMemory};
 use samples::Draws;
@@ -13,9 +12,7 @@ pub fn random_formula(
     vars: u32,
     clauses: u32,
     pick: u32,
-) -> Result<Formula, NoMemory>
-    ensures { IfOk result (λ F. All IsPlain F.clauses) }
-{
+) -> Result<Formula, NoMemory> {
     let vars = vars.clamp(3, MAX_VARS);
     let mut draws = Draws::new(pick);
     let mut formula = Formula::new(alloc, vars);
@@ -32,7 +29,7 @@ pub fn random_formula(
 /// Three literals of different variables.
 fn three(alloc: Global, vars: u32, draws: &mut Draws) -> Result<Vec<Lit>, NoMemory>
     requires { (3 ≤ vars) × (vars ≤ 2 ^ 20) }
-    ensures { IfOk result (λ c. IsPlain c.items) }
+    ensures { IfOk result (λ c. AreWithin vars c.items) }
 {
     let first = draws.below(vars);
     let second = skip(draws.below(vars - 1), first);

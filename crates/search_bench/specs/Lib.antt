@@ -1,4 +1,0 @@
-pub mod Plain
-pub mod Searching
-pub mod Asserting
-pub mod States
