@@ -1,5 +1,5 @@
 -- What a run of the program did, by how it ended.
-use Rattle.std.specs.Prelude.{◌≡◌, ◌≢◌, ◌-◌, ◌^◌, ◌<◌, ◌≤◌, ℕ, List, [], length, Some, Result, Ok, Err}
+use Rattle.std.specs.Prelude.{◌≡◌, ◌≢◌, ◌-◌, ◌^◌, ◌<◌, ◌≤◌, ℕ, List, [], length, Option, Some, IsNone, Result, Ok, Err}
 use Rattle.bone_desk.specs.declared.desk.Feed.TheVariants as feed
 use Rattle.bone_desk.specs.declared.desk.Feed.{Feed}
 use Rattle.bone_desk.specs.declared.desk.Port.TheVariants as port
@@ -15,8 +15,10 @@ use Rattle.dimacs_reader.specs.Feeds.{IsTooLong, IsReadFault, IsReadAs}
 use Rattle.answer_text.specs.AnswerText.{answer_text}
 use Rattle.backbone_main.specs.declared.ending.Ending.{Ending}
 use Rattle.backbone_main.specs.declared.ending.Ending.TheVariants.{Complete, Unsatisfiable, OutOfMemory, BadText, TooLong}
-use Rattle.backbone_main.specs.declared.ending.Ending.TheVariants.{NotBuilt, ReadFault, WriteFault, OpenFault, Usage}
+use Rattle.backbone_main.specs.declared.ending.Ending.TheVariants.{LargeFormula, NotBuilt, ReadFault, WriteFault, OpenFault, Usage}
 use Rattle.backbone_main.specs.Notes.{note_of, GainsNote}
+use Rattle.bone_words.specs.Settings.{Wanted}
+use Rattle.backbone_main.specs.Words.{IsBuilt, IsNotBuilt}
 
 -- the status of an ending
 abbrev pub code_of : Ending → ℕ
@@ -25,6 +27,7 @@ code_of Unsatisfiable = 20
 code_of OutOfMemory = 40
 code_of (BadText fault) = 50
 code_of TooLong = 51
+code_of LargeFormula = 52
 code_of NotBuilt = 52
 code_of ReadFault = 60
 code_of WriteFault = 61
@@ -106,16 +109,32 @@ Accounts Unsatisfiable old new = WritesAnswer HasNoModel old new
 Accounts OutOfMemory old new = WritesNothing old new
 Accounts (BadText fault) old new = RefusesText fault old new
 Accounts TooLong old new = FindsTooLong old new
-Accounts NotBuilt old new = LeavesFormula old new
+Accounts LargeFormula old new = LeavesFormula old new
+Accounts NotBuilt old new = WritesOnly port.Notes old new
 Accounts ReadFault old new = FailsToRead old new
 Accounts WriteFault old new = FailsToWrite old new
 Accounts OpenFault old new = FailsToOpen old new
 Accounts Usage old new = WritesOnly port.Notes old new
 
--- the status is that of an ending which tells what was done, and its note was written last
-pub record EndsWith (number : ℕ) (old new : Told) : Type 0 where
+-- which endings a run has by what its words ask for; it may always be want of memory
+abbrev pub AllowsEnding : Option Wanted → Ending → Type 0
+AllowsEnding wanted OutOfMemory = Unit {0}
+AllowsEnding wanted Usage = IsNone wanted
+AllowsEnding wanted NotBuilt = IsNotBuilt wanted
+AllowsEnding wanted Complete = IsBuilt wanted
+AllowsEnding wanted Unsatisfiable = IsBuilt wanted
+AllowsEnding wanted (BadText fault) = IsBuilt wanted
+AllowsEnding wanted TooLong = IsBuilt wanted
+AllowsEnding wanted LargeFormula = IsBuilt wanted
+AllowsEnding wanted ReadFault = IsBuilt wanted
+AllowsEnding wanted WriteFault = IsBuilt wanted
+AllowsEnding wanted OpenFault = IsBuilt wanted
+
+-- the status is that of an ending which the words allow and which tells what was done, and its note was written last
+pub record EndsWith (wanted : Option Wanted) (number : ℕ) (old new : Told) : Type 0 where
   pub ending : Ending
   pub is_code : number ≡ code_of ending
+  pub allowed : AllowsEnding wanted ending
   pub account : Accounts ending old new
   pub note : GainsNote (note_of ending) old new
 

@@ -1,23 +1,17 @@
--- What the words of a command line ask for.
-use Rattle.std.specs.Prelude.{ℕ, ◌&&◌, Bool, false, not, nat_eq, List, [], ◌∷◌, Option, Some, None, if◌then◌else◌, codes}
-use Rattle.std.specs.Str.{bytes_eq}
+-- Of what words may ask for, the part that is built.
+use Rattle.std.specs.Prelude.{ℕ, ◌&&◌, List, Option, Some, None, IsSome, IsNone, is_none, if◌then◌else◌, option_and_then}
+use Rattle.bone_words.specs.Settings.{Wanted, to_extract, to_check, to_sample}
 
--- what a run is to do: the name of the text to read, where the empty name is standard input
-pub record Request : Type 0 where
-  pub text : List ℕ
+-- the name of the text to read, where an answer is wanted alone: no proof, no witness, no check of one and no sample
+abbrev pub built_text : Wanted → Option (List ℕ)
+built_text (to_extract e) = if is_none e.proof && is_none e.witness then Some e.text else None
+built_text (to_check c) = None
+built_text (to_sample s) = None
 
--- a name isn't empty, and doesn't begin with a dash
-abbrev pub is_name : List ℕ → Bool
-is_name [] = false
-is_name (b ∷ bs) = not (nat_eq b 45)
+-- the words have settings, and these are built
+abbrev pub IsBuilt : Option Wanted → Type 0
+IsBuilt wanted = IsSome (option_and_then built_text wanted)
 
-abbrev pub is_extract : List ℕ → Bool
-is_extract word = bytes_eq word (codes "extract")
-
--- `extract`, or `extract NAME`; other words have no settings
-abbrev pub settings_of : List (List ℕ) → Option Request
-settings_of [] = None
-settings_of (command ∷ []) = if is_extract command then Some (record { text = [] }) else None
-settings_of (command ∷ name ∷ []) =
-    if is_extract command && is_name name then Some (record { text = name }) else None
-settings_of (command ∷ name ∷ more ∷ words) = None
+-- the words have settings, and these aren't built yet
+abbrev pub IsNotBuilt : Option Wanted → Type 0
+IsNotBuilt wanted = IsSome wanted × IsNone (option_and_then built_text wanted)

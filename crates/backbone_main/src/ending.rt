@@ -17,6 +17,8 @@ pub enum Ending {
     /// The text has more bytes than are read.
     TooLong,
     /// The formula has more variables than the program can do yet.
+    LargeFormula,
+    /// The words ask for what the program can't do yet.
     NotBuilt,
     /// The text could not be read.
     ReadFault,
@@ -39,7 +41,7 @@ impl Ending {
             Ending::OutOfMemory => 40,
             Ending::BadText(_) => 50,
             Ending::TooLong => 51,
-            Ending::NotBuilt => 52,
+            Ending::LargeFormula | Ending::NotBuilt => 52,
             Ending::ReadFault => 60,
             Ending::WriteFault => 61,
             Ending::OpenFault => 62,

@@ -7,7 +7,6 @@ mod enumeration;
 mod note;
 #[cfg(test)]
 mod tests;
-mod words;
 
 use crate::alone::{alone, report};
 use crate::ending::Ending;

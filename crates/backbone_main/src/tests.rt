@@ -106,11 +106,25 @@ fn the_answer_names_shown_variables_alone(rt: HostRuntime) -> Result<(), Fail> {
 #[test]
 fn the_text_of_the_given_name_is_read_and_no_other(rt: HostRuntime) -> Result<(), Fail> {
     let alloc = rt.alloc();
-    let rows: [(&[&str], u8, &[u8]); 4] = [
+    let rows: [(&[&str], u8, &[u8]); 6] = [
         (&["extract", "a"], 10, CHAIN_ANSWER),
         (&["extract", "b"], 20, b"s UNSATISFIABLE\n"),
         (&["extract"], 10, EMPTY_ANSWER),
+        (&["extract", ""], 10, EMPTY_ANSWER),
         (&["extract", "c"], 62, b""),
+        (
+            &[
+                "extract",
+                "--seed=1",
+                "--workers",
+                "16",
+                "a",
+                "--budget",
+                "9",
+            ],
+            10,
+            CHAIN_ANSWER,
+        ),
     ];
     for (list, status, answer) in rows {
         let words = owned(alloc, list)?;
@@ -203,15 +217,13 @@ fn each_fault_has_its_status_and_its_note(rt: HostRuntime) -> Result<(), Fail> {
 #[test]
 fn words_without_a_meaning_give_the_usage_alone(rt: HostRuntime) -> Result<(), Fail> {
     let alloc = rt.alloc();
-    let lists: [&[&str]; 8] = [
+    let lists: [&[&str]; 6] = [
         &[],
         &["extract", "a", "b"],
-        &["extract", ""],
-        &["extract", "--workers"],
         &["extract", "--workers", "17", "f"],
+        &["extract", "--help"],
         &["check", "f"],
         &["Extract", "f"],
-        &["sample"],
     ];
     for list in lists {
         let words = owned(alloc, list)?;
@@ -220,6 +232,25 @@ fn words_without_a_meaning_give_the_usage_alone(rt: HostRuntime) -> Result<(), F
         assert_eq!(rt; desk.out_notes.as_slice(), USAGE);
         assert_eq!(rt; desk.calls, 1);
         assert!(rt; desk.out_answer.is_empty());
+    }
+    Ok(())
+}
+
+#[test]
+fn what_is_not_built_is_left_untouched(rt: HostRuntime) -> Result<(), Fail> {
+    let alloc = rt.alloc();
+    let lists: [&[&str]; 4] = [
+        &["check", "f", "a", "p"],
+        &["sample"],
+        &["extract", "--proof", "p", "f"],
+        &["extract", "f", "--witness="],
+    ];
+    for list in lists {
+        let words = owned(alloc, list)?;
+        let mut desk = desk_with(alloc, CHAIN, 64, 0)?;
+        assert_eq!(rt; alone(alloc, words.as_slice(), &mut desk), 52);
+        assert_eq!(rt; desk.calls, 0);
+        assert!(rt; desk.out_answer.is_empty() && desk.out_notes.is_empty());
     }
     Ok(())
 }

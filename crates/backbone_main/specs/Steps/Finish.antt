@@ -13,7 +13,7 @@ use Rattle.answer_text.specs.AnswerText.{answer_text}
 use Rattle.backbone_main.specs.Outcome.{HasModel, HasNoModel, WritesNothing}
 use Rattle.backbone_main.specs.declared.ending.Ending.{Ending}
 use Rattle.backbone_main.specs.declared.ending.Ending.TheVariants.{Complete, Unsatisfiable, OutOfMemory, BadText, TooLong}
-use Rattle.backbone_main.specs.declared.ending.Ending.TheVariants.{NotBuilt, ReadFault, WriteFault, OpenFault, Usage}
+use Rattle.backbone_main.specs.declared.ending.Ending.TheVariants.{LargeFormula, NotBuilt, ReadFault, WriteFault, OpenFault, Usage}
 
 -- before its note a run opens and reads the text, and writes the answer: nothing else changes
 pub record Touches (old new : Told) : Type 0 where
@@ -31,6 +31,7 @@ Finishes OutOfMemory F old new = WritesNothing old new
 Finishes WriteFault F old new = GaveFront port.Answer (answer_text F) old new × Rose (Write port.Answer) old new
 Finishes (BadText fault) F old new = ⊥
 Finishes TooLong F old new = ⊥
+Finishes LargeFormula F old new = ⊥
 Finishes NotBuilt F old new = ⊥
 Finishes ReadFault F old new = ⊥
 Finishes OpenFault F old new = ⊥

@@ -1,0 +1,4 @@
+pub mod Numerals
+pub mod Refusals
+pub mod Named
+pub mod Simple
