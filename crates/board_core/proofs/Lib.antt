@@ -1,0 +1,10 @@
+pub mod Bits
+pub mod Lists
+pub mod Steps
+pub mod Marks
+pub mod Seats
+pub mod Clocks
+pub mod Ends
+pub mod Views
+pub mod Runs
+pub mod Worked

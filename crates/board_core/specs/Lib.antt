@@ -1,0 +1,6 @@
+pub mod Subjects
+pub mod Words
+pub mod Boards
+pub mod Rules
+pub mod Laws
+pub mod Example
