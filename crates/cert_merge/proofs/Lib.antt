@@ -1,0 +1,10 @@
+pub mod Places
+pub mod Taken
+pub mod Fronts
+pub mod MergedLines
+pub mod TrimmedLines
+pub mod Codes
+pub mod Marking
+pub mod Picking
+pub mod OrderedLines
+pub mod Worked

@@ -1,0 +1,12 @@
+use Rattle.std.proofs.Common.{◌≡◌, ◌+◌, ◌*◌, length, take}
+use Rattle.cert_merge.specs.Steps.Marking.{AreRoots, IsLookingFor}
+use Rattle.cert_merge.specs.Steps.Ordered.{lines_of}
+use Rattle.cert_merge.proofs.order.MergedOrder.roots.Given as goal
+
+abbrev pub invariant-loop-place : goal.invariant-loop-place
+invariant-loop-place l = record {
+  roots : AreRoots l.keep (lines_of l.formula l.logs l.self.ids.items (take l.place-index l.self.places.items)) l.marks.items;
+  looks : IsLookingFor l.keep (lines_of l.formula l.logs l.self.ids.items (take l.place-index l.self.places.items)) l.wanted.units.items
+      l.wanted.empty;
+  places : length l.wanted.units.items ≡ 2 * l.formula.vars + 2;
+}

@@ -1,0 +1,29 @@
+-- Two logs over a small formula, worked by the definitions: 1 or 2; 1 or -2. One takes a literal from the other.
+use Rattle.std.specs.Prelude.{List, [], ◌∷◌}
+use Rattle.cnf_core.specs.Literals.{Literals}
+use Rattle.lrat_lines.specs.Examples.{positive, implied_one}
+use Rattle.lrat_log.specs.declared.kind.Kind.TheVariants.{Unit as UnitKind, Core}
+use Rattle.lrat_log.specs.Entries.{Recorded, empty_log, with_shown, with_import}
+
+abbrev pub one_or_two : Literals
+one_or_two = positive 1 ∷ positive 2 ∷ []
+
+abbrev pub only_one : Literals
+only_one = positive 1 ∷ []
+
+-- 1 is shown here
+abbrev pub with_first : Recorded
+with_first = with_shown (empty_log implied_one) Core one_or_two (1 ∷ [])
+
+abbrev pub teacher : Recorded
+teacher = with_shown with_first UnitKind only_one (1 ∷ 2 ∷ [])
+
+-- and taken over and used here
+abbrev pub with_taken : Recorded
+with_taken = with_import (empty_log implied_one) (positive 1) 1
+
+abbrev pub learner : Recorded
+learner = with_shown with_taken Core one_or_two (3 ∷ [])
+
+abbrev pub both : List Recorded
+both = learner ∷ teacher ∷ []

@@ -1,0 +1,5 @@
+pub mod Merging
+pub mod Trimming
+pub mod MergedNeeds
+pub mod Examples
+pub mod Steps
