@@ -1,2 +1,4 @@
 pub mod Critical
+pub mod Listings
+pub mod Walks
 pub mod Steps

@@ -1,1 +1,3 @@
 pub mod Supports
+pub mod Listed
+pub mod Passes

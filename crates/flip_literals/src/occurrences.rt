@@ -1,0 +1,142 @@
+ghost use Rattle.std.specs.Prelude.{◌≡◌, ◌<◌, ◌≤◌, ◌↔◌, IsTrue, IfOk, MatchOption, false, length};
+ghost use Rattle.cnf_core.specs.Literals.{value_of, is_true as is_true_in, clause_true, IsWithin, AreWithin};
+ghost use Rattle.cnf_core.specs.Formulas.{IsModel};
+ghost use Rattle.model_check.specs.Flips.{flipped};
+ghost use Rattle.flip_literals.specs.Listings.{clause_at, ListsPlaces};
+
+use crate::listing::{counted, fill, sum_up};
+use cnf_core::{Formula, Lit, NoMemory, Values};
+use model_check::is_true;
+use std::alloc::Global;
+use std::marker::Model;
+
+/// For each variable the places of the clauses in which the literal of it stands that is true in one
+/// assignment. It is made once, in linear time, and then only read.
+#[derive(Debug, Drop)]
+pub struct Occurrences<'f> {
+    formula: &'f Formula,
+    first: Values,
+    /// Where the list of each variable begins, which ends where the next one begins. Nothing is listed for
+    /// the entry 0.
+    starts: Vec<u32>,
+    /// The lists, one behind the other.
+    places: Vec<u32>,
+}
+
+impl<'f> Model for Occurrences<'f> {
+    ghost use Rattle.flip_literals.specs.Listings.{Listing};
+    ghost use Rattle.flip_literals.specs.Steps.Listed.{IsIndex};
+
+    ghost Value = { Listing };
+
+    ghost view = { λ o. record { formula = o.formula.now; first = o.first } };
+
+    ghost invariant = { λ o. IsIndex o.formula.now o.first o.starts.items o.places.items };
+}
+
+impl<'f> Occurrences<'f> {
+    /// The lists for the literals that `first` makes true.
+    pub fn new(
+        alloc: Global,
+        formula: &'f Formula,
+        first: &Values,
+    ) -> Result<Occurrences<'f>, NoMemory>
+        requires { length first.now ≡ formula.now.vars }
+        ensures { IfOk result (λ o. o ≡ record { formula = formula.now; first = first.now }) }
+    {
+        let mut starts = counted(alloc, formula, first)?;
+        let total = sum_up(&mut starts);
+        let mut places = vec![in alloc; 0u32; total as usize]?;
+        fill(formula, first, &mut starts, &mut places);
+        Ok(Occurrences {
+            formula,
+            first: first.copy()?,
+            starts,
+            places,
+        })
+    }
+
+    /// The places of the clauses, counted from 0, in which the variable's literal stands that is true in
+    /// the first assignment: once for each time that it stands there.
+    pub fn places(&self, var: u32) -> &[u32]
+        requires { (0 < var) × (var ≤ self.now.formula.vars) }
+        ensures { ListsPlaces self.now var result.now }
+    {
+        let start = self.starts[var as usize] as usize;
+        let end = self.starts[var as usize + 1] as usize;
+        &self.places[start..end]
+    }
+
+    /// Whether the flip of a variable alone leaves no model, where the variable's value in the model is that
+    /// of the first assignment. It looks at the clauses that have its literal, up to the first that rests on it.
+    pub fn is_critical(&self, model: &Values, var: u32) -> bool
+        requires model { IsModel self.now.formula model.now }
+        requires within { (0 < var) × (var ≤ self.now.formula.vars) }
+        requires first { value_of model.now var ≡ value_of self.now.first var }
+        ensures critical { IsTrue result ↔ (IsModel self.now.formula (flipped model.now var) → ⊥) }
+        ensures free { result ≡ false → IsModel self.now.formula (flipped model.now var) }
+    {
+        self.holder(model, var).is_some()
+    }
+
+    /// The place of a clause that rests on the variable alone, if there is one.
+    pub(crate) fn holder(&self, model: &Values, var: u32) -> Option<u32>
+        requires model { IsModel self.now.formula model.now }
+        requires within { (0 < var) × (var ≤ self.now.formula.vars) }
+        requires first { value_of model.now var ≡ value_of self.now.first var }
+        ensures { MatchOption result (IsModel self.now.formula (flipped model.now var)) (λ _. IsModel self.now.formula (flipped model.now var) → ⊥) }
+    {
+        for place in self.places(var) {
+            if !self.holds_flipped(*place, model, var) {
+                return Some(*place);
+            }
+        }
+        None
+    }
+
+    /// Whether the model with the variable flipped makes the clause at the place true.
+    pub(crate) fn holds_flipped(&self, place: u32, model: &Values, var: u32) -> bool
+        requires values { length model.now ≡ self.now.formula.vars }
+        requires within { (0 < var) × (var ≤ self.now.formula.vars) }
+        requires place { place < length self.now.formula.clauses }
+        ensures { result ≡ clause_true (flipped model.now var) (clause_at self.now.formula place) }
+    {
+        is_true_flipped(&self.formula.clauses()[place as usize].lits, model, var)
+    }
+
+    /// Whether the place is that of a clause, and this rests on the variable alone.
+    pub(crate) fn is_held_by(&self, place: u32, model: &Values, var: u32) -> bool
+        requires model { IsModel self.now.formula model.now }
+        requires within { (0 < var) × (var ≤ self.now.formula.vars) }
+        ensures { IsTrue result → IsModel self.now.formula (flipped model.now var) → ⊥ }
+    {
+        (place as usize) < self.formula.clauses().len() && !self.holds_flipped(place, model, var)
+    }
+
+    /// The value that the first assignment gives a variable.
+    pub(crate) fn first(&self, var: u32) -> bool
+        requires { (0 < var) × (var ≤ self.now.formula.vars) }
+        ensures { result ≡ value_of self.now.first var }
+    {
+        self.first.get(var)
+    }
+}
+
+/// Whether the assignment with the variable flipped makes one of the literals true.
+fn is_true_flipped(lits: &[Lit], values: &Values, var: u32) -> bool
+    requires within { AreWithin (length values.now) lits.now }
+    requires var { (0 < var) × (var ≤ length values.now) }
+    ensures { result ≡ clause_true (flipped values.now var) lits.now }
+{
+    lits.iter()
+        .any(|lit| is_literal_true_flipped(*lit, values, var))
+}
+
+/// Whether the assignment with the variable flipped makes the literal true.
+fn is_literal_true_flipped(lit: Lit, values: &Values, var: u32) -> bool
+    requires within { IsWithin (length values.now) lit }
+    requires var { (0 < var) × (var ≤ length values.now) }
+    ensures { result ≡ is_true_in (flipped values.now var) lit }
+{
+    is_true(lit, values) != (lit.var() == var)
+}
