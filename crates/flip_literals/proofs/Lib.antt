@@ -1,2 +1,5 @@
 pub mod Supports
 pub mod Marked
+pub mod Held
+pub mod Walked
+pub mod Filled

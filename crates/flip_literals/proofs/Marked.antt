@@ -56,7 +56,7 @@ needed_cases a v cs c needed =
     (Contains-cons_cases c [] needed.clause last))
     (Contains-append_cases cs (c ∷ []) needed.clause needed.here)
 
-true_literal_holds : (a : Assignment) (v : ℕ) → IsTrue (is_true a (true_literal a v))
+pub true_literal_holds : (a : Assignment) (v : ℕ) → IsTrue (is_true a (true_literal a v))
 true_literal_holds a v = by_value (value_of a v)
   where
     by_value : (value : Bool) → (if value then value else not value) ≡ true

@@ -1,5 +1,5 @@
--- What a walk over a model leaves: a model with some open variables turned to the value opposite to their first.
-use Rattle.std.specs.Prelude.{◌≡◌, ℕ, ◌+◌, ◌<◌, ◌≤◌, ◌⊎◌, ◌==◌, Bool, not, if◌then◌else◌, List, [], ◌∷◌, length, All, Contains}
+-- What a walk over a model leaves: a model with some candidates turned to the value opposite to their first.
+use Rattle.std.specs.Prelude.{◌≡◌, ℕ, ◌+◌, ◌<◌, ◌≤◌, ◌⊎◌, not, if◌then◌else◌, List, [], ◌∷◌, length, All, Contains}
 use Rattle.cnf_core.specs.Literals.{Assignment, value_of}
 use Rattle.cnf_core.specs.Formulas.{Cnf, IsModel}
 use Rattle.model_check.specs.Flips.{flipped}
@@ -9,24 +9,24 @@ use Rattle.flip_literals.specs.Listings.{Listing}
 abbrev pub AreVars : ℕ → List ℕ → Type 0
 AreVars n vs = All (λ v. (0 < v) × (v ≤ n)) vs
 
--- the variable is open, and went from its first value to the other
-pub record IsTurned (first : Assignment) (open : List ℕ) (a b : Assignment) (v : ℕ) : Type 0 where
-  pub listed : Contains open v
+-- the variable is a candidate, and went from its first value to the other
+pub record IsTurned (first : Assignment) (candidates : List ℕ) (a b : Assignment) (v : ℕ) : Type 0 where
+  pub listed : Contains candidates v
   pub before : value_of a v ≡ value_of first v
   pub after : value_of b v ≡ not (value_of first v)
 
 -- b is a model, and a but for the variables that are turned
-pub record IsWalked (o : Listing) (open : List ℕ) (a b : Assignment) : Type 0 where
+pub record IsWalked (o : Listing) (candidates : List ℕ) (a b : Assignment) : Type 0 where
   pub is_model : IsModel o.formula b
   pub each : length b ≡ length a
-  pub kept : (v : ℕ) → 0 < v → v ≤ o.formula.vars → (value_of b v ≡ value_of a v) ⊎ IsTurned o.first open a b v
+  pub kept : (v : ℕ) → 0 < v → v ≤ o.formula.vars → (value_of b v ≡ value_of a v) ⊎ IsTurned o.first candidates a b v
 
--- no open variable with its first value can be flipped alone
+-- no candidate with its first value can be flipped alone
 abbrev pub IsAtRest : Listing → List ℕ → Assignment → Type 0
-IsAtRest o open a = (v : ℕ) → Contains open v → value_of a v ≡ value_of o.first v → IsModel o.formula (flipped a v) → ⊥
+IsAtRest o candidates a = (v : ℕ) → Contains candidates v → value_of a v ≡ value_of o.first v → IsModel o.formula (flipped a v) → ⊥
 
 -- how many values differ
 abbrev pub differences : Assignment → Assignment → ℕ
 differences [] b = 0
 differences (x ∷ a) [] = 0
-differences (x ∷ a) (y ∷ b) = (if x == y then 0 else 1) + differences a b
+differences (x ∷ a) (y ∷ b) = (if x then (if y then 0 else 1) else (if y then 1 else 0)) + differences a b

@@ -31,7 +31,7 @@ fn count_clause(formula: &Formula, first: &Values, place: usize, counts: &mut Ve
     requires counted { IsCounted formula.now first.now place 0 counts.old.items }
     ensures { IsCounted formula.now first.now (place + 1) 0 counts.new.items }
 {
-    for lit in &formula.clauses()[place].lits {
+    for lit in formula.clauses()[place].as_slice() {
         if is_true(*lit, first) {
             counts[lit.var() as usize] += 1;
         }
@@ -76,7 +76,7 @@ fn fill_clause(
     requires filled { IsFilled formula.now first.now place 0 starts.old.items places.old.items }
     ensures { IsFilled formula.now first.now (place + 1) 0 starts.new.items places.new.items }
 {
-    for lit in &formula.clauses()[place].lits {
+    for lit in formula.clauses()[place].as_slice() {
         if is_true(*lit, first) {
             let var = lit.var() as usize;
             let start = starts[var] - 1;

@@ -101,7 +101,7 @@ impl<'f> Occurrences<'f> {
         requires place { place < length self.now.formula.clauses }
         ensures { result ≡ clause_true (flipped model.now var) (clause_at self.now.formula place) }
     {
-        is_true_flipped(&self.formula.clauses()[place as usize].lits, model, var)
+        is_true_flipped(self.formula.clauses()[place as usize].as_slice(), model, var)
     }
 
     /// Whether the place is that of a clause, and this rests on the variable alone.

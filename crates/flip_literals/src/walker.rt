@@ -39,40 +39,40 @@ impl Walker {
         })
     }
 
-    /// Flips for good what the model can do without: goes through the open variables, in their order, and
+    /// Flips for good what the model can do without: goes through the candidates, in their order, and
     /// flips each that has its first value and that no clause rests on alone, until a whole pass flips none,
     /// or for [`MAX_PASSES`] passes. What comes out is a model.
     ///
-    /// Answers whether it came to rest: then no open variable that kept its first value can be flipped
-    /// alone. Otherwise each pass flipped at least one. A pass looks at the clauses in which open variables
+    /// Answers whether it came to rest: then no candidate that kept its first value can be flipped
+    /// alone. Otherwise each pass flipped at least one. A pass looks at the clauses in which the
     /// occur, and first at the one that held the variable last. It takes no memory.
-    pub fn walk(&mut self, occurrences: &Occurrences, model: &mut Values, open: &[u32]) -> bool
+    pub fn walk(&mut self, occurrences: &Occurrences, model: &mut Values, candidates: &[u32]) -> bool
         requires vars { self.old ≡ occurrences.now.formula.vars }
         requires model { IsModel occurrences.now.formula model.old }
-        requires open { AreVars occurrences.now.formula.vars open.now }
+        requires candidates { AreVars occurrences.now.formula.vars candidates.now }
         ensures same { self.new ≡ self.old }
-        ensures walked { IsWalked occurrences.now open.now model.old model.new }
-        ensures rest { IsTrue result → IsAtRest occurrences.now open.now model.new }
+        ensures walked { IsWalked occurrences.now candidates.now model.old model.new }
+        ensures rest { IsTrue result → IsAtRest occurrences.now candidates.now model.new }
         ensures cut { result ≡ false → differences occurrences.now.first model.old + 100 ≤ differences occurrences.now.first model.new }
     {
         for _pass in 0..MAX_PASSES {
-            if !self.pass(occurrences, model, open) {
+            if !self.pass(occurrences, model, candidates) {
                 return true;
             }
         }
         false
     }
 
-    /// One pass over the open variables. Answers whether it flipped one.
-    fn pass(&mut self, occurrences: &Occurrences, model: &mut Values, open: &[u32]) -> bool
+    /// One pass over the candidates. Answers whether it flipped one.
+    fn pass(&mut self, occurrences: &Occurrences, model: &mut Values, candidates: &[u32]) -> bool
         requires vars { self.old ≡ occurrences.now.formula.vars }
         requires model { IsModel occurrences.now.formula model.old }
-        requires open { AreVars occurrences.now.formula.vars open.now }
+        requires candidates { AreVars occurrences.now.formula.vars candidates.now }
         ensures same { self.new ≡ self.old }
-        ensures pass { IsPassed occurrences.now open.now model.old model.new result }
+        ensures pass { IsPassed occurrences.now candidates.now model.old model.new result }
     {
         let mut flipped = false;
-        for var in open {
+        for var in candidates {
             if self.flip(occurrences, model, *var) {
                 flipped = true;
             }

@@ -1,5 +1,5 @@
 -- The making of the lists: counted, summed up, filled.
-use Rattle.std.specs.Prelude.{◌≡◌, ℕ, zero, suc, ◌+◌, ◌<◌, ◌≤◌, ◌&&◌, nat_eq, if◌then◌else◌, List, length, Contains, take, slice_index}
+use Rattle.std.specs.Prelude.{◌≡◌, ℕ, ◌+◌, ◌-◌, ◌<◌, ◌≤◌, ◌&&◌, nat_eq, if◌then◌else◌, List, length, Contains, take, slice_index}
 use Rattle.std.specs.List.{sum_by}
 use Rattle.cnf_core.specs.Literals.{Literal, Literals, Assignment, is_true}
 use Rattle.cnf_core.specs.Formulas.{Cnf, true_literal, literal_count}
@@ -44,7 +44,7 @@ pub record IsListed (places : List ℕ) (start end place : ℕ) : Type 0 where
 pub record IsFilled (F : Cnf) (a : Assignment) (place j : ℕ) (starts places : List ℕ) : Type 0 where
   pub each : length starts ≡ F.vars + 2
   pub ends : ℕ → ℕ
-  pub rises : (v : ℕ) → v ≤ F.vars → ends v + all_hits F a (suc v) ≡ ends (suc v)
+  pub rises : (v : ℕ) → 0 < v → v ≤ F.vars + 1 → ends (v - 1) + all_hits F a v ≡ ends v
   pub within : (v : ℕ) → v < F.vars + 2 → ends v ≤ length places
   pub starting : (v : ℕ) → v < F.vars + 2 → slice_index starts v + hits_before F a place j v ≡ ends v
   pub sound : (v k : ℕ) → 0 < v → v ≤ F.vars → slice_index starts v ≤ k → k < ends v → StandsAt F a v (slice_index places k)

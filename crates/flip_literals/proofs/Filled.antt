@@ -1,0 +1,329 @@
+-- The lists while they are filled: each from its end on, and apart from all others.
+use Rattle.std.proofs.Common.{◌≡◌, ◌≢◌, ℕ, zero, suc, ◌+◌, ◌-◌, ◌^◌, ◌<◌, ◌≤◌, ◌⊎◌, ◌&&◌, nat_eq, if◌then◌else◌, Bool, true, false, IsTrue, List, [], ◌∷◌, ◌++◌, length, replicate, Contains, take, set, get_or, refl, sym, ap, ◌∙◌, subst, ⊎_elim, inl, inr, length-set, get_or-set_same, get_or-set_other, arith}
+use Rattle.std.specs.List.{sum_by}
+use Rattle.std.proofs.lemmas.Bool.{cases_eq, cases_lt, both_ways}
+use Rattle.std.proofs.lemmas.List.{take_more, take_all, length-replicate}
+use Rattle.std.proofs.lemmas.List.Sums.{sum_by_more, sum_by_more_le, sum_by-take-le}
+use Rattle.std.proofs.lemmas.List.Elements.{Contains-get_or, Contains-push_cases}
+use Rattle.cnf_core.specs.Literals.{Literal, Literals, Assignment, value_of, is_true}
+use Rattle.cnf_core.specs.Formulas.{Cnf, IsFormula, literal_count, true_literal}
+use Rattle.cnf_core.proofs.Lists.{Contains-nil}
+use Rattle.cnf_core.proofs.Truth.{true_literal_of_is_true}
+use Rattle.flip_literals.specs.Listings.{clause_at, StandsAt}
+use Rattle.flip_literals.specs.Steps.Listed.{hit, hits, all_hits, hits_before, IsCounted, IsSummed, IsListed, IsFilled, IsIndex}
+use Rattle.flip_literals.proofs.Marked.{true_literal_holds}
+
+hit_own : (a : Assignment) (l : Literal) → IsTrue (is_true a l) → hit a l.var l ≡ 1
+hit_own a l holds = grind arith
+
+hit_other : (a : Assignment) (v : ℕ) (l : Literal) → l.var ≢ v → hit a v l ≡ 0
+hit_other a v l other = grind arith
+
+hit_false : (a : Assignment) (v : ℕ) (l : Literal) → is_true a l ≡ false → hit a v l ≡ 0
+hit_false a v l fails = grind arith
+
+-- one literal more
+hits_more : (F : Cnf) (a : Assignment) (place j v : ℕ) (l : Literal) → j < length (clause_at F place)
+    → l ≡ get_or (clause_at F place) j l → hits_before F a place (j + 1) v ≡ hits_before F a place j v + hit a v l
+hits_more F a place j v l below is =
+    let more : hits a v (take (j + 1) (clause_at F place)) ≡ hits a v (take j (clause_at F place)) + hit a v l =
+    sum_by_more (hit a v) (clause_at F place) j l below
+    ∙ ap (λ (k : Literal). hits a v (take j (clause_at F place)) + hit a v k) (sym is) in
+    omega (arith, more)
+
+hits_fit : (F : Cnf) (a : Assignment) (place j v : ℕ) → place < length F.clauses
+    → hits_before F a place j v ≤ all_hits F a v
+hits_fit F a place j v below =
+    let clause : sum_by (hits a v) (take place F.clauses) + hits a v (clause_at F place) ≤ all_hits F a v =
+    sum_by_more_le (hits a v) F.clauses place [] below in
+    let part : hits a v (take j (clause_at F place)) ≤ hits a v (clause_at F place) =
+    sum_by-take-le (hit a v) (clause_at F place) j in
+    omega (arith, clause, part)
+
+-- a whole clause
+hits_clause : (F : Cnf) (a : Assignment) (place j v : ℕ) → place < length F.clauses
+    → length (clause_at F place) ≤ j → hits_before F a place j v ≡ hits_before F a (place + 1) 0 v
+hits_clause F a place j v below whole =
+    let clause : sum_by (hits a v) (take (place + 1) F.clauses) ≡ sum_by (hits a v) (take place F.clauses) + hits a v (clause_at F place) =
+    sum_by_more (hits a v) F.clauses place [] below in
+    let all : hits a v (take j (clause_at F place)) ≡ hits a v (clause_at F place) =
+    ap (hits a v) (take_all j (clause_at F place) whole) in
+    omega (arith, clause, all)
+
+-- all clauses
+hits_all : (F : Cnf) (a : Assignment) (v : ℕ) → hits_before F a (length F.clauses) 0 v ≡ all_hits F a v
+hits_all F a v =
+    let all : sum_by (hits a v) (take (length F.clauses) F.clauses) ≡ all_hits F a v =
+    ap (sum_by (hits a v)) (take_all (length F.clauses) F.clauses (omega arith)) in
+    omega (arith, all)
+
+-- the literals up to one are those before it, and it
+taken_cases : (F : Cnf) (place j : ℕ) (l k : Literal) → j < length (clause_at F place)
+    → l ≡ get_or (clause_at F place) j l → Contains (take (j + 1) (clause_at F place)) k
+    → Contains (take j (clause_at F place)) k ⊎ (l ≡ k)
+taken_cases F place j l k inside is here =
+    let more : take (j + 1) (clause_at F place) ≡ take j (clause_at F place) ++ l ∷ [] =
+    take_more (clause_at F place) j l inside
+    ∙ ap (λ (m : Literal). take j (clause_at F place) ++ m ∷ []) (sym is) in
+    Contains-push_cases (take j (clause_at F place)) l k (subst (λ (c : Literals). Contains c k) more here)
+
+-- the ends rise
+module _ (F : Cnf) (a : Assignment) (place j : ℕ) (starts places : List ℕ) (f : IsFilled F a place j starts places) where
+  ends_up : (u d : ℕ) → u + d ≤ F.vars + 1 → f.ends u ≤ f.ends (u + d)
+  ends_up u zero high = let same : u + 0 ≡ u = omega arith in rw same (omega arith)
+  ends_up u (suc d) high =
+      let up = ends_up u d (omega arith) in
+      let step = f.rises (u + suc d) (omega arith) high in
+      let before : u + suc d - 1 ≡ u + d = omega arith in
+      let is : f.ends (u + d) + all_hits F a (u + suc d) ≡ f.ends (u + suc d) =
+      subst (λ n. f.ends n + all_hits F a (u + suc d) ≡ f.ends (u + suc d)) before step in
+      omega (arith, up, is)
+
+  pub ends_mono : (u w : ℕ) → u ≤ w → w ≤ F.vars + 1 → f.ends u ≤ f.ends w
+  ends_mono u w below high =
+      let whole : u + (w - u) ≡ w = omega arith in
+      subst (λ n. f.ends u ≤ f.ends n) whole (ends_up u (w - u) (omega arith))
+
+  -- a list doesn't begin before the one before it ends
+  pub starts_behind : (v : ℕ) → place < length F.clauses → 0 < v → v ≤ F.vars + 1
+      → f.ends (v - 1) ≤ get_or starts v 0
+  starts_behind v below low high =
+      omega (arith, f.starting v (omega arith), hits_fit F a place j v below, f.rises v low high)
+
+  -- a true literal has room before the start of its variable's list
+  pub has_room : (l : Literal) → place < length F.clauses → j < length (clause_at F place)
+      → l ≡ get_or (clause_at F place) j l → IsTrue (is_true a l) → 0 < l.var → l.var ≤ F.vars
+      → f.ends (l.var - 1) < get_or starts l.var 0
+  has_room l below inside is holds low high =
+      let one = hit_own a l holds in
+      omega (arith, f.starting l.var (omega arith), hits_more F a place j l.var l inside is, one,
+      hits_fit F a place (j + 1) l.var below, f.rises l.var low (omega arith))
+
+  pub start_inside : (v : ℕ) → v ≤ F.vars → get_or starts v 0 ≤ length places
+  start_inside v high = omega (arith, f.starting v (omega arith), f.within v (omega arith))
+
+  -- what lies in a list isn't the entry before the start of any
+  apart : (v w k : ℕ) → place < length F.clauses → 0 < v → v ≤ F.vars → f.ends (v - 1) < get_or starts v 0
+      → 0 < w → w ≤ F.vars → get_or starts w 0 ≤ k → k < f.ends w → k ≢ get_or starts v 0 - 1
+  apart v w k below low_v high_v room low_w high_w low_k high_k =
+      ⊎_elim
+      (λ (own : w ≡ v).
+      let starts_there : get_or starts v 0 ≤ k = subst (λ u. get_or starts u 0 ≤ k) own low_k in
+      omega arith)
+      (λ (other : w ≢ v).
+      ⊎_elim
+      (λ (before : w < v).
+      let up = ends_mono w (v - 1) (omega arith) (omega arith) in
+      omega arith)
+      (λ (behind : v ≤ w).
+      let up = ends_mono v (w - 1) (omega arith) (omega arith) in
+      let starting = starts_behind w below low_w (omega arith) in
+      let end = f.starting v (omega arith) in
+      omega arith)
+      (cases_lt w v))
+      (cases_eq w v)
+
+-- a false literal
+pub filled-miss : (F : Cnf) (a : Assignment) (place j : ℕ) (starts places : List ℕ) (l : Literal)
+    → IsFilled F a place j starts places → j < length (clause_at F place) → l ≡ get_or (clause_at F place) j l
+    → is_true a l ≡ false → IsFilled F a place (j + 1) starts places
+filled-miss F a place j starts places l f inside is fails = record {
+  each = f.each;
+  ends = f.ends;
+  rises = f.rises;
+  within = f.within;
+  starting = λ v high. omega (arith, f.starting v high, hits_more F a place j v l inside is, hit_false a v l fails);
+  sound = f.sound;
+  before = f.before;
+  present = λ v low high here. f.present v low high (earlier v here);
+}
+  where
+    earlier : (v : ℕ) → Contains (take (j + 1) (clause_at F place)) (true_literal a v)
+        → Contains (take j (clause_at F place)) (true_literal a v)
+    earlier v here =
+        ⊎_elim
+        (λ (before : Contains (take j (clause_at F place)) (true_literal a v)). before)
+        (λ (own : l ≡ true_literal a v).
+        absurd (both_ways (is_true a l) fails (subst (λ k. IsTrue (is_true a k)) (sym own) (true_literal_holds a v))))
+        (taken_cases F place j l (true_literal a v) inside is here)
+
+-- a true literal
+pub filled-hit : (F : Cnf) (a : Assignment) (place j : ℕ) (starts places : List ℕ) (l : Literal) (start : ℕ)
+    → IsFilled F a place j starts places → place < length F.clauses → j < length (clause_at F place)
+    → l ≡ get_or (clause_at F place) j l → IsTrue (is_true a l) → 0 < l.var → l.var ≤ F.vars
+    → start ≡ get_or starts l.var 0 - 1
+    → IsFilled F a place (j + 1) (set starts l.var start) (set places start place)
+filled-hit F a place j starts places l start f below inside is holds low high start_is = record {
+  each = length-set starts l.var start ∙ f.each;
+  ends = f.ends;
+  rises = f.rises;
+  within = λ v within. omega (arith, f.within v within, length-set places start place);
+  starting = λ v within. starting v within;
+  sound = λ v k low_v high_v low_k high_k. sound v k low_v high_v low_k high_k;
+  before = λ v p low_v high_v earlier stands. kept v p low_v high_v (f.before v p low_v high_v earlier stands);
+  present = λ v low_v high_v here.
+      ⊎_elim
+      (λ (earlier : Contains (take j (clause_at F place)) (true_literal a v)).
+      kept v place low_v high_v (f.present v low_v high_v earlier))
+      (λ (own : l ≡ true_literal a v). new v (ap (λ (k : Literal). k.var) own))
+      (taken_cases F place j l (true_literal a v) inside is here);
+}
+  where
+    room : f.ends (l.var - 1) < get_or starts l.var 0
+    room = has_room F a place j starts places f l below inside is holds low high
+
+    own_start : get_or (set starts l.var start) l.var 0 ≡ start
+    own_start = get_or-set_same starts l.var start 0 (omega (arith, f.each))
+
+    own_end : start < f.ends l.var
+    own_end = omega (arith, room, start_is, f.starting l.var (omega arith))
+
+    own_place : get_or (set places start place) start 0 ≡ place
+    own_place = get_or-set_same places start place 0
+        (omega (arith, room, start_is, start_inside F a place j starts places f l.var high))
+
+    other_start : (v : ℕ) → v ≢ l.var → get_or (set starts l.var start) v 0 ≡ get_or starts v 0
+    other_start v other = get_or-set_other starts l.var v start 0 other
+
+    -- no list begins later than before
+    low_start : (v : ℕ) → get_or (set starts l.var start) v 0 ≤ get_or starts v 0
+    low_start v = ⊎_elim
+        (λ (own : v ≡ l.var).
+        subst (λ w. get_or (set starts l.var start) w 0 ≤ get_or starts w 0) (sym own) (omega (arith, own_start, start_is)))
+        (λ (other : v ≢ l.var). omega (arith, other_start v other))
+        (cases_eq v l.var)
+
+    starting : (v : ℕ) → v < F.vars + 2
+        → get_or (set starts l.var start) v 0 + hits_before F a place (j + 1) v ≡ f.ends v
+    starting v within = ⊎_elim
+        (λ (own : v ≡ l.var).
+        subst (λ w. get_or (set starts l.var start) w 0 + hits_before F a place (j + 1) w ≡ f.ends w) (sym own)
+        (omega (arith, own_start, start_is, room, f.starting l.var (omega arith),
+        hits_more F a place j l.var l inside is, hit_own a l holds)))
+        (λ (other : v ≢ l.var).
+        omega (arith, other_start v other, f.starting v within, hits_more F a place j v l inside is,
+        hit_other a v l (λ own. other (sym own))))
+        (cases_eq v l.var)
+
+    stays : (v k : ℕ) → 0 < v → v ≤ F.vars → get_or starts v 0 ≤ k → k < f.ends v
+        → get_or (set places start place) k 0 ≡ get_or places k 0
+    stays v k low_v high_v low_k high_k =
+        get_or-set_other places start k place 0
+        (λ same. apart F a place j starts places f l.var v k below low high room low_v high_v low_k high_k
+        (same ∙ start_is))
+
+    kept : (v p : ℕ) → 0 < v → v ≤ F.vars → IsListed places (get_or starts v 0) (f.ends v) p
+        → IsListed (set places start place) (get_or (set starts l.var start) v 0) (f.ends v) p
+    kept v p low_v high_v listed = record {
+      at = listed.at;
+      low = omega (arith, low_start v, listed.low);
+      high = listed.high;
+      is = stays v listed.at low_v high_v listed.low listed.high ∙ listed.is;
+    }
+
+    new : (v : ℕ) → l.var ≡ v
+        → IsListed (set places start place) (get_or (set starts l.var start) v 0) (f.ends v) place
+    new v own = subst
+        (λ w. IsListed (set places start place) (get_or (set starts l.var start) w 0) (f.ends w) place) own
+        (record { at = start; low = omega (arith, own_start); high = own_end; is = own_place })
+
+    stands : StandsAt F a l.var place
+    stands = record {
+      within = below;
+      here = subst (λ k. Contains (clause_at F place) k) (sym (true_literal_of_is_true a l holds))
+          (subst (λ k. Contains (clause_at F place) k) (sym is) (Contains-get_or (clause_at F place) j l inside));
+    }
+
+    sound : (v k : ℕ) → 0 < v → v ≤ F.vars → get_or (set starts l.var start) v 0 ≤ k → k < f.ends v
+        → StandsAt F a v (get_or (set places start place) k 0)
+    sound v k low_v high_v low_k high_k =
+        let older : get_or starts v 0 ≤ k → StandsAt F a v (get_or (set places start place) k 0) =
+        λ later. subst (StandsAt F a v) (sym (stays v k low_v high_v later high_k)) (f.sound v k low_v high_v later high_k)
+        in
+        ⊎_elim
+        (λ (own : v ≡ l.var).
+        ⊎_elim
+        (λ (same : k ≡ start).
+        subst (λ n. StandsAt F a v (get_or (set places start place) n 0)) (sym same)
+        (subst (StandsAt F a v) (sym own_place) (subst (λ w. StandsAt F a w place) (sym own) stands)))
+        (λ (apart_there : k ≢ start).
+        let low_there : start ≤ k =
+        subst (λ n. n ≤ k) own_start (subst (λ w. get_or (set starts l.var start) w 0 ≤ k) own low_k) in
+        older (subst (λ w. get_or starts w 0 ≤ k) (sym own) (omega (arith, start_is))))
+        (cases_eq k start))
+        (λ (other : v ≢ l.var). older (omega (arith, other_start v other, low_k)))
+        (cases_eq v l.var)
+
+-- a whole clause
+pub filled-clause : (F : Cnf) (a : Assignment) (place j : ℕ) (starts places : List ℕ)
+    → IsFilled F a place j starts places → place < length F.clauses → length (clause_at F place) ≤ j
+    → IsFilled F a (place + 1) 0 starts places
+filled-clause F a place j starts places f below whole = record {
+  each = f.each;
+  ends = f.ends;
+  rises = f.rises;
+  within = f.within;
+  starting = λ v high. omega (arith, f.starting v high, hits_clause F a place j v below whole);
+  sound = f.sound;
+  before = λ v p low high earlier stands.
+      ⊎_elim
+      (λ (here : p ≡ place).
+      subst (IsListed places (get_or starts v 0) (f.ends v)) (sym here)
+      (f.present v low high
+      (subst (λ (c : Literals). Contains c (true_literal a v)) (sym (take_all j (clause_at F place) whole))
+      (subst (λ n. Contains (clause_at F n) (true_literal a v)) here stands.here))))
+      (λ (other : p ≢ place). f.before v p low high (omega arith) stands)
+      (cases_eq p place);
+  present = λ v low high here. absurd (Contains-nil (true_literal a v) here);
+}
+
+-- the sums of the counts are the ends
+pub filled-start : (F : Cnf) (a : Assignment) (counts ends : List ℕ) (total : ℕ)
+    → IsCounted F a (length F.clauses) 0 counts → IsSummed counts ends total
+    → IsFilled F a 0 0 ends (replicate total 0)
+filled-start F a counts ends total counted summed = record {
+  each = summed.each ∙ counted.each;
+  ends = λ v. sum_by (λ n. n) (take (v + 1) counts);
+  rises = λ v low high.
+      let here : v < length counts = omega (arith, counted.each) in
+      let more = sum_by_more (λ n. n) counts v 0 here in
+      let before : v - 1 + 1 ≡ v = omega arith in
+      let is : sum_by (λ n. n) (take (v - 1 + 1) counts) ≡ sum_by (λ n. n) (take v counts) =
+      ap (λ i. sum_by (λ n. n) (take i counts)) before in
+      omega (arith, more, is, counted.counted v (omega arith), hits_all F a v);
+  within = λ v high. omega (arith, sum_by-take-le (λ n. n) counts (v + 1), summed.all, length-replicate total 0);
+  starting = λ v high. omega (arith, summed.summed v (omega (arith, counted.each)));
+  sound = λ v k low high low_k high_k. absurd (omega (arith, summed.summed v (omega (arith, counted.each))));
+  before = λ v p low high earlier stands. absurd (omega arith);
+  present = λ v low high here. absurd (Contains-nil (true_literal a v) here);
+}
+
+-- filled by all clauses
+pub index_filled : (F : Cnf) (a : Assignment) (starts places : List ℕ) → length a ≡ F.vars
+    → IsFilled F a (length F.clauses) 0 starts places → IsIndex F a starts places
+index_filled F a starts places values f = record {
+  values = values;
+  each = f.each;
+  rises = λ v low high. omega (arith, begins v low (omega arith), ends v high, f.rises v low (omega arith));
+  within = λ v low high. omega (arith, ends v high, f.within v (omega arith));
+  sound = λ v k low high low_k high_k. f.sound v k low high low_k (omega (arith, ends v high));
+  whole = λ v p low high stands.
+      let listed = f.before v p low high stands.within stands in
+      record { at = listed.at; low = listed.low; high = omega (arith, listed.high, ends v high); is = listed.is };
+}
+  where
+    begins : (v : ℕ) → 0 < v → v ≤ F.vars + 1 → get_or starts v 0 ≡ f.ends (v - 1)
+    begins v low high = omega (arith, f.starting v (omega arith), hits_all F a v, f.rises v low high)
+
+    ends : (v : ℕ) → v ≤ F.vars → get_or starts (v + 1) 0 ≡ f.ends v
+    ends v high =
+        let one : v + 1 - 1 ≡ v = omega arith in
+        subst (λ n. get_or starts (v + 1) 0 ≡ f.ends n) one (begins (v + 1) (omega arith) (omega arith))
+
+-- the counts' sum fits
+pub counted_total : (F : Cnf) (a : Assignment) (counts : List ℕ) → IsFormula F
+    → IsCounted F a (length F.clauses) 0 counts → sum_by (λ n. n) counts ≤ 2 ^ 23
+counted_total F a counts limits counted =
+    let all : literal_count (take (length F.clauses) F.clauses) ≡ literal_count F.clauses =
+    ap literal_count (take_all (length F.clauses) F.clauses (omega arith)) in
+    omega (arith, all, counted.total, limits.literals_limit)

@@ -1,0 +1,60 @@
+-- A flip by the clauses in which the variable's true literal stands: all others keep the literal that they had.
+use Rattle.std.proofs.Common.{◌≡◌, ◌≢◌, ℕ, ◌-◌, ◌<◌, ◌≤◌, false, not, IsTrue, [], length, All, Contains, get_or, sym, ap, ◌∙◌, subst, ⊎_elim, length-set, arith}
+use Rattle.std.proofs.lemmas.Bool.{cases_eq, both_ways}
+use Rattle.std.proofs.lemmas.List.{get_or_default}
+use Rattle.std.proofs.lemmas.List.Elements.{All-contains, Contains-get_or}
+use Rattle.cnf_core.specs.Literals.{Literal, Literals, Assignment, value_of, is_true, clause_true, IsWithin, AreWithin}
+use Rattle.cnf_core.specs.Formulas.{Cnf, IsModel, true_literal}
+use Rattle.cnf_core.proofs.Lists.{passes_of_list_all, list_all_of_members, member_of_list_any, list_any_of_member}
+use Rattle.cnf_core.proofs.Truth.{literal_of, value_of-with_value_other, is_true_same, true_literal_of_is_true}
+use Rattle.model_check.specs.Flips.{flipped}
+use Rattle.flip_literals.specs.Listings.{clause_at, StandsAt}
+
+-- the clause at the place of a member
+clause_of_member : (F : Cnf) (c : Literals) (here : Contains F.clauses c) → clause_at F here.0 ≡ c
+clause_of_member F c here = get_or_default F.clauses here.0 [] c here.1 ∙ here.2
+
+-- where it is true in each clause of its literal, the flip leaves a model
+pub model_of_places : (F : Cnf) (a first : Assignment) (v : ℕ) → IsModel F a → All (AreWithin F.vars) F.clauses
+    → 0 < v → value_of a v ≡ value_of first v
+    → ((p : ℕ) → StandsAt F first v p → IsTrue (clause_true (flipped a v) (clause_at F p)))
+    → IsModel F (flipped a v)
+model_of_places F a first v model within low same each = record {
+  values = length-set a (v - 1) (not (value_of a v)) ∙ model.values;
+  satisfied = list_all_of_members (clause_true (flipped a v)) F.clauses (λ c here. holds c here);
+}
+  where
+    own_holds : (c : Literals) (k : Literal) → Contains F.clauses c → Contains c k → true_literal a v ≡ k
+        → IsTrue (clause_true (flipped a v) c)
+    own_holds c k here there own =
+        let is : clause_at F here.0 ≡ c = clause_of_member F c here in
+        let own_first : k ≡ true_literal first v = sym own ∙ ap (literal_of v) same in
+        let at_place : Contains (clause_at F here.0) (true_literal first v) =
+        subst (λ (d : Literals). Contains d (true_literal first v)) (sym is) (subst (λ l. Contains c l) own_first there) in
+        subst (λ d. IsTrue (clause_true (flipped a v) d)) is
+        (each here.0 (record { within = here.1; here = at_place }))
+
+    other_holds : (c : Literals) (k : Literal) → Contains c k → IsTrue (is_true a k) → 0 < k.var → k.var ≢ v
+        → IsTrue (clause_true (flipped a v) c)
+    other_holds c k there holds low_k other =
+        list_any_of_member (is_true (flipped a v)) c k there
+        (is_true_same a (flipped a v) k (value_of-with_value_other a v k.var (not (value_of a v)) low low_k other) ∙ holds)
+
+    holds : (c : Literals) → Contains F.clauses c → IsTrue (clause_true (flipped a v) c)
+    holds c here =
+        let (k, there, true_there) =
+        member_of_list_any (is_true a) c (passes_of_list_all (clause_true a) F.clauses c model.satisfied here) in
+        let k_within : IsWithin F.vars k =
+        All-contains (IsWithin F.vars) c k (All-contains (AreWithin F.vars) F.clauses c within here) there in
+        ⊎_elim
+        (λ (own : k.var ≡ v).
+        own_holds c k here there (subst (λ w. true_literal a w ≡ k) own (true_literal_of_is_true a k true_there)))
+        (λ (other : k.var ≢ v). other_holds c k there true_there k_within.low other)
+        (cases_eq k.var v)
+
+-- a clause that fails leaves none
+pub no_model_at : (F : Cnf) (b : Assignment) (p : ℕ) → p < length F.clauses → clause_true b (clause_at F p) ≡ false
+    → IsModel F b → ⊥
+no_model_at F b p below fails model =
+    both_ways (clause_true b (clause_at F p)) fails
+    (passes_of_list_all (clause_true b) F.clauses (clause_at F p) model.satisfied (Contains-get_or F.clauses p [] below))
