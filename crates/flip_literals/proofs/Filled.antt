@@ -1,17 +1,44 @@
 -- The lists while they are filled: each from its end on, and apart from all others.
-use Rattle.std.proofs.Common.{◌≡◌, ◌≢◌, ℕ, zero, suc, ◌+◌, ◌-◌, ◌^◌, ◌<◌, ◌≤◌, ◌⊎◌, ◌&&◌, nat_eq, if◌then◌else◌, Bool, true, false, IsTrue, List, [], ◌∷◌, ◌++◌, length, replicate, Contains, take, set, get_or, refl, sym, ap, ◌∙◌, subst, ⊎_elim, inl, inr, length-set, get_or-set_same, get_or-set_other, arith}
+use Rattle.std.proofs.Common.{◌≡◌, ◌≢◌, ℕ, zero, suc, ◌+◌, ◌-◌, ◌^◌, ◌<◌, ◌≤◌, ◌↔◌, ◌⊎◌, ◌&&◌, nat_eq, if◌then◌else◌, Bool, true, false, IsTrue, List, [], ◌∷◌, ◌++◌, length, replicate, Contains, take, drop, set, get_or, refl, sym, ap, ◌∙◌, subst, ⊎_elim, inl, inr, length-set, get_or-set_same, get_or-set_other, arith}
 use Rattle.std.specs.List.{sum_by}
 use Rattle.std.proofs.lemmas.Bool.{cases_eq, cases_lt, both_ways}
-use Rattle.std.proofs.lemmas.List.{take_more, take_all, length-replicate}
+use Rattle.std.proofs.lemmas.List.{get_or_default, get_or-take, get_or-drop, length-take-le, length-drop, take_more, take_all, length-replicate}
 use Rattle.std.proofs.lemmas.List.Sums.{sum_by_more, sum_by_more_le, sum_by-take-le}
-use Rattle.std.proofs.lemmas.List.Elements.{Contains-get_or, Contains-push_cases}
-use Rattle.cnf_core.specs.Literals.{Literal, Literals, Assignment, value_of, is_true}
+use Rattle.std.proofs.lemmas.List.Elements.{All-get_or, Contains-get_or, Contains-push_cases}
+use Rattle.cnf_core.specs.Literals.{Literal, Literals, Assignment, is_true, IsWithin, AreWithin}
 use Rattle.cnf_core.specs.Formulas.{Cnf, IsFormula, literal_count, true_literal}
 use Rattle.cnf_core.proofs.Lists.{Contains-nil}
 use Rattle.cnf_core.proofs.Truth.{true_literal_of_is_true}
 use Rattle.flip_literals.specs.Listings.{clause_at, StandsAt}
 use Rattle.flip_literals.specs.Steps.Listed.{hit, hits, all_hits, hits_before, IsCounted, IsSummed, IsListed, IsFilled, IsIndex}
 use Rattle.flip_literals.proofs.Marked.{true_literal_holds}
+
+-- the literal j of the clause at a place
+pub record IsLiteralAt (F : Cnf) (place j : ℕ) (l : Literal) : Type 0 where
+  pub below : place < length F.clauses
+  pub inside : j < length (clause_at F place)
+  pub is : l ≡ get_or (clause_at F place) j l
+
+-- the clause that is read at a place
+pub clause_read : (F : Cnf) (clauses : List Literals) (place : ℕ) (item lits : Literals) → clauses ≡ F.clauses
+    → place < length F.clauses → item ≡ get_or clauses place item → lits ≡ item → lits ≡ clause_at F place
+clause_read F clauses place item lits all below is same =
+    same ∙ is ∙ ap (λ (cs : List Literals). get_or cs place item) all ∙ get_or_default F.clauses place item [] below
+
+pub literal_read : (F : Cnf) (place j : ℕ) (lits : Literals) (l : Literal) → lits ≡ clause_at F place
+    → place < length F.clauses → j < length lits → l ≡ get_or lits j l → IsLiteralAt F place j l
+literal_read F place j lits l clause below inside is = record {
+  below = below;
+  inside = subst (λ (c : Literals). j < length c) clause inside;
+  is = subst (λ (c : Literals). l ≡ get_or c j l) clause is;
+}
+
+pub literal_within : (F : Cnf) (place j : ℕ) (l : Literal) → IsFormula F → IsLiteralAt F place j l
+    → IsWithin F.vars l
+literal_within F place j l limits at =
+    let clause : AreWithin F.vars (clause_at F place) =
+    All-get_or (AreWithin F.vars) F.clauses place [] at.below limits.within in
+    subst (IsWithin F.vars) (sym at.is) (All-get_or (IsWithin F.vars) (clause_at F place) j l at.inside clause)
 
 hit_own : (a : Assignment) (l : Literal) → IsTrue (is_true a l) → hit a l.var l ≡ 1
 hit_own a l holds = grind arith
@@ -67,6 +94,12 @@ taken_cases F place j l k inside is here =
     ∙ ap (λ (m : Literal). take j (clause_at F place) ++ m ∷ []) (sym is) in
     Contains-push_cases (take j (clause_at F place)) l k (subst (λ (c : Literals). Contains c k) more here)
 
+-- the start of a literal's list, before which there is room
+pub record IsStart (starts places : List ℕ) (l : Literal) (start : ℕ) : Type 0 where
+  pub is : start ≡ get_or starts l.var 0
+  pub some : 1 ≤ start
+  pub inside : start - 1 < length places
+
 -- the ends rise
 module _ (F : Cnf) (a : Assignment) (place j : ℕ) (starts places : List ℕ) (f : IsFilled F a place j starts places) where
   ends_up : (u d : ℕ) → u + d ≤ F.vars + 1 → f.ends u ≤ f.ends (u + d)
@@ -91,16 +124,31 @@ module _ (F : Cnf) (a : Assignment) (place j : ℕ) (starts places : List ℕ) (
       omega (arith, f.starting v (omega arith), hits_fit F a place j v below, f.rises v low high)
 
   -- a true literal has room before the start of its variable's list
-  pub has_room : (l : Literal) → place < length F.clauses → j < length (clause_at F place)
-      → l ≡ get_or (clause_at F place) j l → IsTrue (is_true a l) → 0 < l.var → l.var ≤ F.vars
+  has_room : (l : Literal) → IsLiteralAt F place j l → IsWithin F.vars l → IsTrue (is_true a l)
       → f.ends (l.var - 1) < get_or starts l.var 0
-  has_room l below inside is holds low high =
+  has_room l at within holds =
+      let low : 0 < l.var = within.low in
+      let high : l.var ≤ F.vars = within.high in
       let one = hit_own a l holds in
-      omega (arith, f.starting l.var (omega arith), hits_more F a place j l.var l inside is, one,
-      hits_fit F a place (j + 1) l.var below, f.rises l.var low (omega arith))
+      omega (arith, f.starting l.var (omega arith), hits_more F a place j l.var l at.inside at.is, one,
+      hits_fit F a place (j + 1) l.var at.below, f.rises l.var low (omega arith))
 
-  pub start_inside : (v : ℕ) → v ≤ F.vars → get_or starts v 0 ≤ length places
+  start_inside : (v : ℕ) → v ≤ F.vars → get_or starts v 0 ≤ length places
   start_inside v high = omega (arith, f.starting v (omega arith), f.within v (omega arith))
+
+  -- what is read at the literal's variable is the start of its list, and one less lies in the lists
+  pub start_read : (l : Literal) (v start : ℕ) → IsLiteralAt F place j l → IsWithin F.vars l → IsTrue (is_true a l)
+      → v ≡ l.var → start ≡ get_or starts v start → IsStart starts places l start
+  start_read l v start at within holds var is =
+      let low : 0 < l.var = within.low in
+      let high : l.var ≤ F.vars = within.high in
+      let same : start ≡ get_or starts l.var 0 =
+      is ∙ get_or_default starts v start 0 (omega (arith, f.each)) ∙ ap (λ w. get_or starts w 0) var in
+      record {
+        is = same;
+        some = omega (arith, same, has_room l at within holds);
+        inside = omega (arith, same, has_room l at within holds, start_inside l.var high);
+      }
 
   -- what lies in a list isn't the entry before the start of any
   apart : (v w k : ℕ) → place < length F.clauses → 0 < v → v ≤ F.vars → f.ends (v - 1) < get_or starts v 0
@@ -125,14 +173,14 @@ module _ (F : Cnf) (a : Assignment) (place j : ℕ) (starts places : List ℕ) (
 
 -- a false literal
 pub filled-miss : (F : Cnf) (a : Assignment) (place j : ℕ) (starts places : List ℕ) (l : Literal)
-    → IsFilled F a place j starts places → j < length (clause_at F place) → l ≡ get_or (clause_at F place) j l
-    → is_true a l ≡ false → IsFilled F a place (j + 1) starts places
-filled-miss F a place j starts places l f inside is fails = record {
+    → IsFilled F a place j starts places → IsLiteralAt F place j l → is_true a l ≡ false
+    → IsFilled F a place (j + 1) starts places
+filled-miss F a place j starts places l f at fails = record {
   each = f.each;
   ends = f.ends;
   rises = f.rises;
   within = f.within;
-  starting = λ v high. omega (arith, f.starting v high, hits_more F a place j v l inside is, hit_false a v l fails);
+  starting = λ v high. omega (arith, f.starting v high, hits_more F a place j v l at.inside at.is, hit_false a v l fails);
   sound = f.sound;
   before = f.before;
   present = λ v low high here. f.present v low high (earlier v here);
@@ -145,15 +193,14 @@ filled-miss F a place j starts places l f inside is fails = record {
         (λ (before : Contains (take j (clause_at F place)) (true_literal a v)). before)
         (λ (own : l ≡ true_literal a v).
         absurd (both_ways (is_true a l) fails (subst (λ k. IsTrue (is_true a k)) (sym own) (true_literal_holds a v))))
-        (taken_cases F place j l (true_literal a v) inside is here)
+        (taken_cases F place j l (true_literal a v) at.inside at.is here)
 
 -- a true literal
 pub filled-hit : (F : Cnf) (a : Assignment) (place j : ℕ) (starts places : List ℕ) (l : Literal) (start : ℕ)
-    → IsFilled F a place j starts places → place < length F.clauses → j < length (clause_at F place)
-    → l ≡ get_or (clause_at F place) j l → IsTrue (is_true a l) → 0 < l.var → l.var ≤ F.vars
+    → IsFilled F a place j starts places → IsLiteralAt F place j l → IsWithin F.vars l → IsTrue (is_true a l)
     → start ≡ get_or starts l.var 0 - 1
     → IsFilled F a place (j + 1) (set starts l.var start) (set places start place)
-filled-hit F a place j starts places l start f below inside is holds low high start_is = record {
+filled-hit F a place j starts places l start f at l_within holds start_is = record {
   each = length-set starts l.var start ∙ f.each;
   ends = f.ends;
   rises = f.rises;
@@ -166,11 +213,17 @@ filled-hit F a place j starts places l start f below inside is holds low high st
       (λ (earlier : Contains (take j (clause_at F place)) (true_literal a v)).
       kept v place low_v high_v (f.present v low_v high_v earlier))
       (λ (own : l ≡ true_literal a v). new v (ap (λ (k : Literal). k.var) own))
-      (taken_cases F place j l (true_literal a v) inside is here);
+      (taken_cases F place j l (true_literal a v) at.inside at.is here);
 }
   where
+    low : 0 < l.var
+    low = l_within.low
+
+    high : l.var ≤ F.vars
+    high = l_within.high
+
     room : f.ends (l.var - 1) < get_or starts l.var 0
-    room = has_room F a place j starts places f l below inside is holds low high
+    room = has_room F a place j starts places f l at l_within holds
 
     own_start : get_or (set starts l.var start) l.var 0 ≡ start
     own_start = get_or-set_same starts l.var start 0 (omega (arith, f.each))
@@ -199,9 +252,9 @@ filled-hit F a place j starts places l start f below inside is holds low high st
         (λ (own : v ≡ l.var).
         subst (λ w. get_or (set starts l.var start) w 0 + hits_before F a place (j + 1) w ≡ f.ends w) (sym own)
         (omega (arith, own_start, start_is, room, f.starting l.var (omega arith),
-        hits_more F a place j l.var l inside is, hit_own a l holds)))
+        hits_more F a place j l.var l at.inside at.is, hit_own a l holds)))
         (λ (other : v ≢ l.var).
-        omega (arith, other_start v other, f.starting v within, hits_more F a place j v l inside is,
+        omega (arith, other_start v other, f.starting v within, hits_more F a place j v l at.inside at.is,
         hit_other a v l (λ own. other (sym own))))
         (cases_eq v l.var)
 
@@ -209,7 +262,7 @@ filled-hit F a place j starts places l start f below inside is holds low high st
         → get_or (set places start place) k 0 ≡ get_or places k 0
     stays v k low_v high_v low_k high_k =
         get_or-set_other places start k place 0
-        (λ same. apart F a place j starts places f l.var v k below low high room low_v high_v low_k high_k
+        (λ same. apart F a place j starts places f l.var v k at.below low high room low_v high_v low_k high_k
         (same ∙ start_is))
 
     kept : (v p : ℕ) → 0 < v → v ≤ F.vars → IsListed places (get_or starts v 0) (f.ends v) p
@@ -229,9 +282,9 @@ filled-hit F a place j starts places l start f below inside is holds low high st
 
     stands : StandsAt F a l.var place
     stands = record {
-      within = below;
+      within = at.below;
       here = subst (λ k. Contains (clause_at F place) k) (sym (true_literal_of_is_true a l holds))
-          (subst (λ k. Contains (clause_at F place) k) (sym is) (Contains-get_or (clause_at F place) j l inside));
+          (subst (λ k. Contains (clause_at F place) k) (sym at.is) (Contains-get_or (clause_at F place) j l at.inside));
     }
 
     sound : (v k : ℕ) → 0 < v → v ≤ F.vars → get_or (set starts l.var start) v 0 ≤ k → k < f.ends v
@@ -277,6 +330,43 @@ filled-clause F a place j starts places f below whole = record {
   present = λ v low high here. absurd (Contains-nil (true_literal a v) here);
 }
 
+-- before an index stand the sums, and from it on the counts
+pub record IsSumming (counts now : List ℕ) (i total : ℕ) : Type 0 where
+  pub each : length now ≡ length counts
+  pub total_is : total ≡ sum_by (λ n. n) (take i counts)
+  pub summed : (k : ℕ) → k < i → get_or now k 0 ≡ sum_by (λ n. n) (take (k + 1) counts)
+  pub left : (k : ℕ) → i ≤ k → get_or now k 0 ≡ get_or counts k 0
+
+pub summing-read : (counts now : List ℕ) (i total x : ℕ) → IsSumming counts now i total → i < length counts
+    → x ≡ get_or now i x → x ≡ get_or counts i 0
+summing-read counts now i total x s below is =
+    is ∙ get_or_default now i x 0 (omega (arith, s.each)) ∙ s.left i (omega arith)
+
+pub summing-fits : (counts now : List ℕ) (i total x : ℕ) → IsSumming counts now i total → i < length counts
+    → x ≡ get_or now i x → total + x ≤ sum_by (λ n. n) counts
+summing-fits counts now i total x s below is =
+    omega (arith, s.total_is, summing-read counts now i total x s below is, sum_by_more_le (λ n. n) counts i 0 below)
+
+pub summing-more : (counts now : List ℕ) (i total x : ℕ) → IsSumming counts now i total → i < length counts
+    → x ≡ get_or now i x → IsSumming counts (set now i (total + x)) (i + 1) (total + x)
+summing-more counts now i total x s below is =
+    let all : total + x ≡ sum_by (λ n. n) (take (i + 1) counts) =
+    omega (arith, s.total_is, summing-read counts now i total x s below is, sum_by_more (λ n. n) counts i 0 below) in
+    record {
+      each = length-set now i (total + x) ∙ s.each;
+      total_is = all;
+      summed = λ k before.
+          ⊎_elim
+          (λ (own : k ≡ i).
+          subst (λ n. get_or (set now i (total + x)) n 0 ≡ sum_by (λ n. n) (take (n + 1) counts)) (sym own)
+          (get_or-set_same now i (total + x) 0 (omega (arith, s.each)) ∙ all))
+          (λ (other : k ≢ i). get_or-set_other now i k (total + x) 0 other ∙ s.summed k (omega arith))
+          (cases_eq k i);
+      left = λ k behind.
+          let other : k ≢ i = omega arith in
+          get_or-set_other now i k (total + x) 0 other ∙ s.left k (omega arith);
+    }
+
 -- the sums of the counts are the ends
 pub filled-start : (F : Cnf) (a : Assignment) (counts ends : List ℕ) (total : ℕ)
     → IsCounted F a (length F.clauses) 0 counts → IsSummed counts ends total
@@ -291,7 +381,7 @@ filled-start F a counts ends total counted summed = record {
       let is : sum_by (λ n. n) (take (v - 1 + 1) counts) ≡ sum_by (λ n. n) (take v counts) =
       ap (λ i. sum_by (λ n. n) (take i counts)) before in
       omega (arith, more, is, counted.counted v (omega arith), hits_all F a v);
-  within = λ v high. omega (arith, sum_by-take-le (λ n. n) counts (v + 1), summed.all, length-replicate total 0);
+  within = λ v high. omega (arith, sum_by-take-le (λ n. n) counts (v + 1), summed.all, length-replicate {A = ℕ} total 0);
   starting = λ v high. omega (arith, summed.summed v (omega (arith, counted.each)));
   sound = λ v k low high low_k high_k. absurd (omega (arith, summed.summed v (omega (arith, counted.each))));
   before = λ v p low high earlier stands. absurd (omega arith);
@@ -321,9 +411,45 @@ index_filled F a starts places values f = record {
         subst (λ n. get_or starts (v + 1) 0 ≡ f.ends n) one (begins (v + 1) (omega arith) (omega arith))
 
 -- the counts' sum fits
-pub counted_total : (F : Cnf) (a : Assignment) (counts : List ℕ) → IsFormula F
-    → IsCounted F a (length F.clauses) 0 counts → sum_by (λ n. n) counts ≤ 2 ^ 23
-counted_total F a counts limits counted =
-    let all : literal_count (take (length F.clauses) F.clauses) ≡ literal_count F.clauses =
-    ap literal_count (take_all (length F.clauses) F.clauses (omega arith)) in
-    omega (arith, all, counted.total, limits.literals_limit)
+pub counted_total : (F : Cnf) (a : Assignment) (place : ℕ) (counts : List ℕ) → IsFormula F
+    → IsCounted F a place 0 counts → sum_by (λ n. n) counts ≤ 2 ^ 23
+counted_total F a place counts limits counted =
+    let part : literal_count (take place F.clauses) ≤ literal_count F.clauses = sum_by-take-le length F.clauses place in
+    omega (arith, part, counted.total, limits.literals_limit)
+
+-- the part between two starts has just the variable's places
+pub index_places : (F : Cnf) (a : Assignment) (starts places : List ℕ) (v start end p : ℕ)
+    → IsIndex F a starts places → 0 < v → v ≤ F.vars → start ≡ get_or starts v start → end ≡ get_or starts (v + 1) end
+    → Contains (take (end - start) (drop start places)) p ↔ StandsAt F a v p
+index_places F a starts places v start end p index low high start_is end_is = (
+  λ here.
+      let below : here.0 < end - start = omega (arith, here.1, part_length) in
+      let at : get_or places (start + here.0) 0 ≡ p = sym (part_at here.0 below) ∙ here.2 in
+      subst (StandsAt F a v) at
+      (index.sound v (start + here.0) low high (omega (arith, begins)) (omega (arith, ends, begins, below))),
+  λ stands.
+      let listed = index.whole v p low high stands in
+      let below : listed.at - start < end - start =
+      omega (arith, listed.low, listed.high, begins, ends) in
+      let there : start + (listed.at - start) ≡ listed.at = omega (arith, listed.low, begins) in
+      (listed.at - start, omega (arith, below, part_length),
+      part_at (listed.at - start) below ∙ ap (λ k. get_or places k 0) there ∙ listed.is),
+)
+  where
+    begins : start ≡ get_or starts v 0
+    begins = start_is ∙ get_or_default starts v start 0 (omega (arith, index.each))
+
+    ends : end ≡ get_or starts (v + 1) 0
+    ends = end_is ∙ get_or_default starts (v + 1) end 0 (omega (arith, index.each))
+
+    inside : end ≤ length places
+    inside = omega (arith, ends, index.within v low high)
+
+    part_length : length (take (end - start) (drop start places)) ≡ end - start
+    part_length = length-take-le (end - start) (drop start places) (omega (arith, length-drop start places, inside))
+
+    part_at : (k : ℕ) → k < end - start → get_or (take (end - start) (drop start places)) k p ≡ get_or places (start + k) 0
+    part_at k below =
+        get_or-take (end - start) (drop start places) k p below
+        ∙ get_or-drop start places k p
+        ∙ get_or_default places (start + k) p 0 (omega (arith, inside, below))

@@ -1,5 +1,5 @@
 -- A flip by the clauses in which the variable's true literal stands: all others keep the literal that they had.
-use Rattle.std.proofs.Common.{◌≡◌, ◌≢◌, ℕ, ◌-◌, ◌<◌, ◌≤◌, false, not, IsTrue, [], length, All, Contains, get_or, sym, ap, ◌∙◌, subst, ⊎_elim, length-set, arith}
+use Rattle.std.proofs.Common.{◌≡◌, ◌≢◌, ℕ, ◌-◌, ◌<◌, ◌≤◌, false, not, IsTrue, List, [], length, All, Contains, get_or, sym, ap, ◌∙◌, subst, ⊎_elim, length-set, arith}
 use Rattle.std.proofs.lemmas.Bool.{cases_eq, both_ways}
 use Rattle.std.proofs.lemmas.List.{get_or_default}
 use Rattle.std.proofs.lemmas.List.Elements.{All-contains, Contains-get_or}
@@ -8,7 +8,7 @@ use Rattle.cnf_core.specs.Formulas.{Cnf, IsModel, true_literal}
 use Rattle.cnf_core.proofs.Lists.{passes_of_list_all, list_all_of_members, member_of_list_any, list_any_of_member}
 use Rattle.cnf_core.proofs.Truth.{literal_of, value_of-with_value_other, is_true_same, true_literal_of_is_true}
 use Rattle.model_check.specs.Flips.{flipped}
-use Rattle.flip_literals.specs.Listings.{clause_at, StandsAt}
+use Rattle.flip_literals.specs.Listings.{Listing, clause_at, StandsAt, ListsPlaces}
 
 -- the clause at the place of a member
 clause_of_member : (F : Cnf) (c : Literals) (here : Contains F.clauses c) → clause_at F here.0 ≡ c
@@ -58,3 +58,17 @@ pub no_model_at : (F : Cnf) (b : Assignment) (p : ℕ) → p < length F.clauses 
 no_model_at F b p below fails model =
     both_ways (clause_true b (clause_at F p)) fails
     (passes_of_list_all (clause_true b) F.clauses (clause_at F p) model.satisfied (Contains-get_or F.clauses p [] below))
+
+-- each listed place is one of the literal's
+pub place_stands : (o : Listing) (v k : ℕ) (places : List ℕ) → ListsPlaces o v places → k < length places
+    → StandsAt o.formula o.first v (get_or places k 0)
+place_stands o v k places lists below = (lists (get_or places k 0)).0 (Contains-get_or places k 0 below)
+
+-- what holds at each listed place holds at each of the literal's
+pub places_hold : (o : Listing) (v : ℕ) (places : List ℕ) (b : Assignment) → ListsPlaces o v places
+    → ((k : ℕ) → k < length places → IsTrue (clause_true b (clause_at o.formula (get_or places k 0))))
+    → (p : ℕ) → StandsAt o.formula o.first v p → IsTrue (clause_true b (clause_at o.formula p))
+places_hold o v places b lists each p stands =
+    let here = (lists p).1 stands in
+    let is : get_or places here.0 0 ≡ p = sym (get_or_default places here.0 p 0 here.1) ∙ here.2 in
+    subst (λ q. IsTrue (clause_true b (clause_at o.formula q))) is (each here.0 here.1)

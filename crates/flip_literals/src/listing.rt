@@ -15,7 +15,8 @@ pub(crate) fn counted(
     first: &Values,
 ) -> Result<Vec<u32>, NoMemory>
     requires { length first.now ≡ formula.now.vars }
-    ensures { IfOk result (λ counts. IsCounted formula.now first.now (length formula.now.clauses) 0 counts.items) }
+    ensures counted { IfOk result (λ counts. IsCounted formula.now first.now (length formula.now.clauses) 0 counts.items) }
+    ensures total { IfOk result (λ counts. sum_by (λ n. n) counts.items ≤ 2 ^ 23) }
 {
     let mut counts = vec![in alloc; 0u32; formula.vars() as usize + 2]?;
     for place in 0..formula.clauses().len() {

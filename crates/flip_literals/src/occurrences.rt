@@ -1,11 +1,11 @@
 ghost use Rattle.std.specs.Prelude.{◌≡◌, ◌<◌, ◌≤◌, ◌↔◌, IsTrue, IfOk, MatchOption, false, length};
 ghost use Rattle.cnf_core.specs.Literals.{value_of, is_true as is_true_in, clause_true, IsWithin, AreWithin};
-ghost use Rattle.cnf_core.specs.Formulas.{IsModel};
+ghost use Rattle.cnf_core.specs.Formulas.{IsFormula, IsModel};
 ghost use Rattle.model_check.specs.Flips.{flipped};
-ghost use Rattle.flip_literals.specs.Listings.{clause_at, ListsPlaces};
+ghost use Rattle.flip_literals.specs.Listings.{ListsPlaces};
 
 use crate::listing::{counted, fill, sum_up};
-use cnf_core::{Formula, Lit, NoMemory, Values};
+use cnf_core::{Clause, Formula, Lit, NoMemory, Values};
 use model_check::is_true;
 use std::alloc::Global;
 use std::marker::Model;
@@ -86,22 +86,13 @@ impl<'f> Occurrences<'f> {
         requires first { value_of model.now var ≡ value_of self.now.first var }
         ensures { MatchOption result (IsModel self.now.formula (flipped model.now var)) (λ _. IsModel self.now.formula (flipped model.now var) → ⊥) }
     {
+        let clauses = self.clauses();
         for place in self.places(var) {
-            if !self.holds_flipped(*place, model, var) {
+            if !is_true_flipped(clauses[*place as usize].as_slice(), model, var) {
                 return Some(*place);
             }
         }
         None
-    }
-
-    /// Whether the model with the variable flipped makes the clause at the place true.
-    pub(crate) fn holds_flipped(&self, place: u32, model: &Values, var: u32) -> bool
-        requires values { length model.now ≡ self.now.formula.vars }
-        requires within { (0 < var) × (var ≤ self.now.formula.vars) }
-        requires place { place < length self.now.formula.clauses }
-        ensures { result ≡ clause_true (flipped model.now var) (clause_at self.now.formula place) }
-    {
-        is_true_flipped(self.formula.clauses()[place as usize].as_slice(), model, var)
     }
 
     /// Whether the place is that of a clause, and this rests on the variable alone.
@@ -110,13 +101,24 @@ impl<'f> Occurrences<'f> {
         requires within { (0 < var) × (var ≤ self.now.formula.vars) }
         ensures { IsTrue result → IsModel self.now.formula (flipped model.now var) → ⊥ }
     {
-        (place as usize) < self.formula.clauses().len() && !self.holds_flipped(place, model, var)
+        let clauses = self.clauses();
+        (place as usize) < clauses.len()
+            && !is_true_flipped(clauses[place as usize].as_slice(), model, var)
+    }
+
+    /// The formula's clauses.
+    fn clauses(&self) -> &[Clause]
+        ensures value { result.now ≡ self.now.formula.clauses }
+        ensures limits { IsFormula self.now.formula }
+    {
+        self.formula.clauses()
     }
 
     /// The value that the first assignment gives a variable.
     pub(crate) fn first(&self, var: u32) -> bool
         requires { (0 < var) × (var ≤ self.now.formula.vars) }
-        ensures { result ≡ value_of self.now.first var }
+        ensures value { result ≡ value_of self.now.first var }
+        ensures each { length self.now.first ≡ self.now.formula.vars }
     {
         self.first.get(var)
     }

@@ -71,13 +71,13 @@ impl Walker {
         ensures same { self.new ≡ self.old }
         ensures pass { IsPassed occurrences.now candidates.now model.old model.new result }
     {
-        let mut flipped = false;
+        let mut changed = false;
         for var in candidates {
             if self.flip(occurrences, model, *var) {
-                flipped = true;
+                changed = true;
             }
         }
-        flipped
+        changed
     }
 
     /// Flips the variable if it has its first value and no clause rests on it alone, and answers whether it did.

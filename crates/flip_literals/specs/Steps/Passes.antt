@@ -1,5 +1,5 @@
 -- One flip of a walk, and one pass.
-use Rattle.std.specs.Prelude.{◌≡◌, ℕ, ◌<◌, Bool, true, false, List, length}
+use Rattle.std.specs.Prelude.{◌≡◌, ℕ, ◌+◌, ◌<◌, Bool, true, false, List}
 use Rattle.cnf_core.specs.Literals.{Assignment, value_of}
 use Rattle.cnf_core.specs.Formulas.{IsModel}
 use Rattle.model_check.specs.Flips.{flipped}
@@ -11,6 +11,7 @@ pub record IsFlipped (o : Listing) (v : ℕ) (a b : Assignment) : Type 0 where
   pub first : value_of a v ≡ value_of o.first v
   pub is : b ≡ flipped a v
   pub is_model : IsModel o.formula b
+  pub more : differences o.first b ≡ differences o.first a + 1
 
 -- nothing changed, and the variable has the other value or can't be flipped
 pub record IsHeld (o : Listing) (v : ℕ) (a b : Assignment) : Type 0 where
