@@ -130,8 +130,14 @@ module _ (F : Cnf) (a : Assignment) (place j : ℕ) (starts places : List ℕ) (
       let low : 0 < l.var = within.low in
       let high : l.var ≤ F.vars = within.high in
       let one = hit_own a l holds in
-      omega (arith, f.starting l.var (omega arith), hits_more F a place j l.var l at.inside at.is, one,
-      hits_fit F a place (j + 1) l.var at.below, f.rises l.var low (omega arith))
+      omega (
+        arith,
+        f.starting l.var (omega arith),
+        hits_more F a place j l.var l at.inside at.is,
+        one,
+        hits_fit F a place (j + 1) l.var at.below,
+        f.rises l.var low (omega arith),
+      )
 
   start_inside : (v : ℕ) → v ≤ F.vars → get_or starts v 0 ≤ length places
   start_inside v high = omega (arith, f.starting v (omega arith), f.within v (omega arith))
@@ -251,11 +257,23 @@ filled-hit F a place j starts places l start f at l_within holds start_is = reco
     starting v within = ⊎_elim
         (λ (own : v ≡ l.var).
         subst (λ w. get_or (set starts l.var start) w 0 + hits_before F a place (j + 1) w ≡ f.ends w) (sym own)
-        (omega (arith, own_start, start_is, room, f.starting l.var (omega arith),
-        hits_more F a place j l.var l at.inside at.is, hit_own a l holds)))
+        (omega (
+          arith,
+          own_start,
+          start_is,
+          room,
+          f.starting l.var (omega arith),
+          hits_more F a place j l.var l at.inside at.is,
+          hit_own a l holds,
+        )))
         (λ (other : v ≢ l.var).
-        omega (arith, other_start v other, f.starting v within, hits_more F a place j v l at.inside at.is,
-        hit_other a v l (λ own. other (sym own))))
+        omega (
+          arith,
+          other_start v other,
+          f.starting v within,
+          hits_more F a place j v l at.inside at.is,
+          hit_other a v l (λ own. other (sym own)),
+        ))
         (cases_eq v l.var)
 
     stays : (v k : ℕ) → 0 < v → v ≤ F.vars → get_or starts v 0 ≤ k → k < f.ends v
@@ -431,9 +449,11 @@ index_places F a starts places v start end p index low high start_is end_is = (
       let listed = index.whole v p low high stands in
       let below : listed.at - start < end - start =
       omega (arith, listed.low, listed.high, begins, ends) in
-      let there : start + (listed.at - start) ≡ listed.at = omega (arith, listed.low, begins) in
-      (listed.at - start, omega (arith, below, part_length),
-      part_at (listed.at - start) below ∙ ap (λ k. get_or places k 0) there ∙ listed.is),
+      let there : start + (listed.at - start) ≡ listed.at = omega (arith, listed.low, begins) in (
+        listed.at - start,
+        omega (arith, below, part_length),
+        part_at (listed.at - start) below ∙ ap (λ k. get_or places k 0) there ∙ listed.is,
+      ),
 )
   where
     begins : start ≡ get_or starts v 0

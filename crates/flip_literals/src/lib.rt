@@ -8,6 +8,8 @@ mod marks;
 mod occurrences;
 #[cfg(test)]
 mod tests;
+#[cfg(test)]
+mod walk_tests;
 mod walker;
 
 pub use flips::critical;

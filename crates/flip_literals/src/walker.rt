@@ -46,7 +46,12 @@ impl Walker {
     /// Answers whether it came to rest: then no candidate that kept its first value can be flipped
     /// alone. Otherwise each pass flipped at least one. A pass looks at the clauses in which the
     /// occur, and first at the one that held the variable last. It takes no memory.
-    pub fn walk(&mut self, occurrences: &Occurrences, model: &mut Values, candidates: &[u32]) -> bool
+    pub fn walk(
+        &mut self,
+        occurrences: &Occurrences,
+        model: &mut Values,
+        candidates: &[u32],
+    ) -> bool
         requires vars { self.old ≡ occurrences.now.formula.vars }
         requires model { IsModel occurrences.now.formula model.old }
         requires candidates { AreVars occurrences.now.formula.vars candidates.now }

@@ -7,5 +7,5 @@ abbrev pub invariant-loop-pass : goal.invariant-loop-pass
 invariant-loop-pass l = record {
   vars : l.self ≡ l.initial.self;
   walked : IsWalked l.occurrences l.candidates l.initial.model l.model;
-  more : differences l.occurrences.first l.initial.model + l._pass ≤ differences l.occurrences.first l.model
+  more : differences l.occurrences.first l.initial.model + l._pass ≤ differences l.occurrences.first l.model;
 }
