@@ -86,6 +86,7 @@ impl Walker {
     }
 
     /// Flips the variable if it has its first value and no clause rests on it alone, and answers whether it did.
+    #[tactic(auto, using(crate::proofs::Walked::flips))]
     fn flip(&mut self, occurrences: &Occurrences, model: &mut Values, var: u32) -> bool
         requires vars { self.old ≡ occurrences.now.formula.vars }
         requires model { IsModel occurrences.now.formula model.old }
