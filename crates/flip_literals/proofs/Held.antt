@@ -1,5 +1,5 @@
 -- A flip by the clauses in which the variable's true literal stands: all others keep the literal that they had.
-use Rattle.std.proofs.Common.{◌≡◌, ◌≢◌, ℕ, ◌-◌, ◌<◌, ◌≤◌, false, not, IsTrue, List, [], length, All, Contains, get_or, sym, ap, ◌∙◌, subst, ⊎_elim, length-set, arith}
+use Rattle.std.proofs.Common.{◌≡◌, ◌≢◌, ℕ, ◌-◌, ◌<◌, false, not, IsTrue, List, [], length, All, Contains, get_or, sym, ap, ◌∙◌, subst, ⊎_elim, length-set}
 use Rattle.std.proofs.lemmas.Bool.{cases_eq, both_ways}
 use Rattle.std.proofs.lemmas.List.{get_or_default}
 use Rattle.std.proofs.lemmas.List.Elements.{All-contains, Contains-get_or}

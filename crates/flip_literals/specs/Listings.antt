@@ -1,5 +1,5 @@
 -- Where the literals stand that one assignment makes true.
-use Rattle.std.specs.Prelude.{◌≡◌, ◌↔◌, ℕ, ◌<◌, List, length, Contains, slice_index_or, []}
+use Rattle.std.specs.Prelude.{◌↔◌, ℕ, ◌<◌, List, length, Contains, slice_index_or, []}
 use Rattle.cnf_core.specs.Literals.{Literals, Assignment}
 use Rattle.cnf_core.specs.Formulas.{Cnf, true_literal}
 

@@ -1,7 +1,7 @@
 -- What a walk over a model leaves: a model with some candidates turned to the value opposite to their first.
 use Rattle.std.specs.Prelude.{◌≡◌, ℕ, ◌+◌, ◌<◌, ◌≤◌, ◌⊎◌, not, if◌then◌else◌, List, [], ◌∷◌, length, All, Contains}
 use Rattle.cnf_core.specs.Literals.{Assignment, value_of}
-use Rattle.cnf_core.specs.Formulas.{Cnf, IsModel}
+use Rattle.cnf_core.specs.Formulas.{IsModel}
 use Rattle.model_check.specs.Flips.{flipped}
 use Rattle.flip_literals.specs.Listings.{Listing}
 

@@ -1,5 +1,5 @@
 -- A true literal has room, and its place goes before the start of its variable's list.
-use Rattle.std.proofs.Common.{◌≡◌, ◌≤◌, ◌-◌, length, IsTrue, sym, ap, ◌∙◌, subst, arith}
+use Rattle.std.proofs.Common.{◌≤◌, ◌-◌, length, IsTrue, sym, ap, ◌∙◌, subst, arith}
 use Rattle.cnf_core.specs.Literals.{Literals, is_true}
 use Rattle.flip_literals.proofs.Filled.{clause_read, literal_read, literal_within, start_read, filled-miss, filled-hit, filled-clause}
 use Rattle.flip_literals.proofs.listing.fill_clause.Goals as goal

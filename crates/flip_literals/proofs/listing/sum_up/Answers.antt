@@ -1,6 +1,5 @@
 -- A sum so far is at most the whole one.
-use Rattle.std.proofs.Common.{◌≤◌, ◌+◌, ◌<◌, length, arith}
-use Rattle.std.specs.List.{sum_by}
+use Rattle.std.proofs.Common.{arith}
 use Rattle.flip_literals.proofs.Filled.{summing-fits, summing-more}
 use Rattle.flip_literals.proofs.listing.sum_up.Goals as goal
 

@@ -1,7 +1,7 @@
 -- Each clause that is looked at has the variable's literal; one that fails after the flip leaves no model.
-use Rattle.std.proofs.Common.{◌≡◌, IsTrue, [], length, get_or, sym, ap, ◌∙◌, subst, below_more, arith}
+use Rattle.std.proofs.Common.{[], get_or, sym, ap, ◌∙◌, below_more, arith}
 use Rattle.std.proofs.lemmas.List.Elements.{All-get_or}
-use Rattle.cnf_core.specs.Literals.{Literals, clause_true, AreWithin}
+use Rattle.cnf_core.specs.Literals.{clause_true, AreWithin}
 use Rattle.model_check.specs.Flips.{flipped}
 use Rattle.flip_literals.proofs.Held.{model_of_places, no_model_at, place_stands, places_hold}
 use Rattle.flip_literals.proofs.Filled.{clause_read}

@@ -1,5 +1,5 @@
 -- The part between two starts has just the variable's places.
-use Rattle.std.proofs.Common.{◌≤◌, ◌<◌, ◌-◌, take, drop, sym, subst}
+use Rattle.std.proofs.Common.{◌≤◌, ◌-◌, take, drop, sym, subst}
 use Rattle.flip_literals.specs.Listings.{Listing, ListsPlaces}
 use Rattle.flip_literals.proofs.Filled.{index_places}
 use Rattle.flip_literals.proofs.occurrences.Occurrences.places.Goals as goal

@@ -1,5 +1,5 @@
 -- Each candidate is flipped, or held, or has the other value.
-use Rattle.std.proofs.Common.{◌<◌, ◌≤◌, ℕ, true, false, get_or, refl, ◌∙◌, subst}
+use Rattle.std.proofs.Common.{◌<◌, ◌≤◌, ℕ, get_or, refl, ◌∙◌, subst}
 use Rattle.std.proofs.lemmas.List.Elements.{All-get_or, Contains-get_or}
 use Rattle.flip_literals.specs.Steps.Passes.{Tells, IsFlipped, IsHeld}
 use Rattle.flip_literals.proofs.Walked.{passing-start, passing-flipped, passing-held, passed}
