@@ -407,9 +407,10 @@ filled-start F a counts ends total counted summed = record {
 }
 
 -- filled by all clauses
-pub index_filled : (F : Cnf) (a : Assignment) (starts places : List ℕ) → length a ≡ F.vars
+pub index_filled : (F : Cnf) (a : Assignment) (starts places : List ℕ) → IsFormula F → length a ≡ F.vars
     → IsFilled F a (length F.clauses) 0 starts places → IsIndex F a starts places
-index_filled F a starts places values f = record {
+index_filled F a starts places limits values f = record {
+  limits = limits;
   values = values;
   each = f.each;
   rises = λ v low high. omega (arith, begins v low (omega arith), ends v high, f.rises v low (omega arith));

@@ -3,3 +3,4 @@ pub mod Marked
 pub mod Held
 pub mod Walked
 pub mod Filled
+pub mod Flattened

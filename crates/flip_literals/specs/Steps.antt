@@ -1,3 +1,4 @@
 pub mod Supports
 pub mod Listed
 pub mod Passes
+pub mod Flat

@@ -2,6 +2,7 @@
 //! formula, or by the clauses in which one variable occurs; and walks that flip what a model can do without.
 #![tactic(auto)]
 
+mod flat;
 mod flips;
 mod listing;
 mod marks;

@@ -57,7 +57,8 @@ pub(crate) fn sum_up(counts: &mut Vec<u32>) -> u32
 pub(crate) fn fill(formula: &Formula, first: &Values, starts: &mut Vec<u32>, places: &mut Vec<u32>)
     requires values { length first.now ≡ formula.now.vars }
     requires filled { IsFilled formula.now first.now 0 0 starts.old.items places.old.items }
-    ensures { IsFilled formula.now first.now (length formula.now.clauses) 0 starts.new.items places.new.items }
+    ensures filled { IsFilled formula.now first.now (length formula.now.clauses) 0 starts.new.items places.new.items }
+    ensures limits { IsFormula formula.now }
 {
     for place in 0..formula.clauses().len() {
         fill_clause(formula, first, place, starts, places);

@@ -2,19 +2,21 @@ ghost use Rattle.std.specs.Prelude.{◌≡◌, ◌<◌, ◌≤◌, ◌↔◌, Is
 ghost use Rattle.cnf_core.specs.Literals.{value_of, is_true as is_true_in, clause_true, IsWithin, AreWithin};
 ghost use Rattle.cnf_core.specs.Formulas.{IsFormula, IsModel};
 ghost use Rattle.model_check.specs.Flips.{flipped};
-ghost use Rattle.flip_literals.specs.Listings.{ListsPlaces};
+ghost use Rattle.flip_literals.specs.Listings.{clause_at, ListsPlaces};
 
+use crate::flat::FlatClauses;
 use crate::listing::{counted, fill, sum_up};
-use cnf_core::{Clause, Formula, Lit, NoMemory, Values};
+use cnf_core::{Formula, Lit, NoMemory, Values};
 use model_check::is_true;
 use std::alloc::Global;
 use std::marker::Model;
 
 /// For each variable the places of the clauses in which the literal of it stands that is true in one
-/// assignment. It is made once, in linear time, and then only read.
+/// assignment. It has its own copy of the clauses, with the literals one behind the other, and is made once,
+/// in linear time.
 #[derive(Debug, Drop)]
 pub struct Occurrences<'f> {
-    formula: &'f Formula,
+    clauses: FlatClauses<'f>,
     first: Values,
     /// Where the list of each variable begins, which ends where the next one begins. Nothing is listed for
     /// the entry 0.
@@ -29,9 +31,9 @@ impl<'f> Model for Occurrences<'f> {
 
     ghost Value = { Listing };
 
-    ghost view = { λ o. record { formula = o.formula.now; first = o.first } };
+    ghost view = { λ o. record { formula = o.clauses; first = o.first } };
 
-    ghost invariant = { λ o. IsIndex o.formula.now o.first o.starts.items o.places.items };
+    ghost invariant = { λ o. IsIndex o.clauses o.first o.starts.items o.places.items };
 }
 
 impl<'f> Occurrences<'f> {
@@ -49,7 +51,7 @@ impl<'f> Occurrences<'f> {
         let mut places = vec![in alloc; 0u32; total as usize]?;
         fill(formula, first, &mut starts, &mut places);
         Ok(Occurrences {
-            formula,
+            clauses: FlatClauses::new(alloc, formula)?,
             first: first.copy()?,
             starts,
             places,
@@ -60,7 +62,8 @@ impl<'f> Occurrences<'f> {
     /// the first assignment: once for each time that it stands there.
     pub fn places(&self, var: u32) -> &[u32]
         requires { (0 < var) × (var ≤ self.now.formula.vars) }
-        ensures { ListsPlaces self.now var result.now }
+        ensures places { ListsPlaces self.now var result.now }
+        ensures limits { IsFormula self.now.formula }
     {
         let start = self.starts[var as usize] as usize;
         let end = self.starts[var as usize + 1] as usize;
@@ -86,9 +89,8 @@ impl<'f> Occurrences<'f> {
         requires first { value_of model.now var ≡ value_of self.now.first var }
         ensures { MatchOption result (IsModel self.now.formula (flipped model.now var)) (λ _. IsModel self.now.formula (flipped model.now var) → ⊥) }
     {
-        let clauses = self.clauses();
         for place in self.places(var) {
-            if !is_true_flipped(clauses[*place as usize].as_slice(), model, var) {
+            if !is_true_flipped(self.clause(*place), model, var) {
                 return Some(*place);
             }
         }
@@ -101,17 +103,16 @@ impl<'f> Occurrences<'f> {
         requires within { (0 < var) × (var ≤ self.now.formula.vars) }
         ensures { IsTrue result → IsModel self.now.formula (flipped model.now var) → ⊥ }
     {
-        let clauses = self.clauses();
-        (place as usize) < clauses.len()
-            && !is_true_flipped(clauses[place as usize].as_slice(), model, var)
+        (place as usize) < self.clauses.len() && !is_true_flipped(self.clause(place), model, var)
     }
 
-    /// The formula's clauses.
-    fn clauses(&self) -> &[Clause]
-        ensures value { result.now ≡ self.now.formula.clauses }
+    /// The literals of the clause at a place.
+    fn clause(&self, place: u32) -> &[Lit]
+        requires { place < length self.now.formula.clauses }
+        ensures value { result.now ≡ clause_at self.now.formula place }
         ensures limits { IsFormula self.now.formula }
     {
-        self.formula.clauses()
+        self.clauses.get(place)
     }
 
     /// The value that the first assignment gives a variable.

@@ -2,7 +2,7 @@
 use Rattle.std.specs.Prelude.{◌≡◌, ℕ, ◌+◌, ◌-◌, ◌<◌, ◌≤◌, ◌&&◌, nat_eq, if◌then◌else◌, List, length, Contains, take, slice_index}
 use Rattle.std.specs.List.{sum_by}
 use Rattle.cnf_core.specs.Literals.{Literal, Literals, Assignment, is_true}
-use Rattle.cnf_core.specs.Formulas.{Cnf, true_literal, literal_count}
+use Rattle.cnf_core.specs.Formulas.{Cnf, IsFormula, true_literal, literal_count}
 use Rattle.flip_literals.specs.Listings.{clause_at, StandsAt}
 
 -- 1 for the variable's literal that the assignment makes true, and 0 for every other one
@@ -55,6 +55,7 @@ pub record IsFilled (F : Cnf) (a : Assignment) (place j : ℕ) (starts places : 
 
 -- each variable's list lies between its start and the next one, and has just the places of its literal
 pub record IsIndex (F : Cnf) (a : Assignment) (starts places : List ℕ) : Type 0 where
+  pub limits : IsFormula F
   pub values : length a ≡ F.vars
   pub each : length starts ≡ F.vars + 2
   pub rises : (v : ℕ) → 0 < v → v ≤ F.vars → slice_index starts v ≤ slice_index starts (v + 1)

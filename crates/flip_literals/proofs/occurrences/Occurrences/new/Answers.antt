@@ -12,5 +12,6 @@ fill-requires-clause-filled c =
 
 pub invariant_of-result : goal.invariant_of-result
 invariant_of-result c =
-    rw c.in_ok-copy.ensures
-    (index_filled c.args.formula.now c.args.first.now c.fill.new.starts.items c.fill.new.places.items c.requires c.fill.ensures)
+    rw (c.in_ok-copy.ensures, c.in_ok-new.ensures)
+    (index_filled c.args.formula.now c.args.first.now c.fill.new.starts.items c.fill.new.places.items c.fill.ensures.limits c.requires
+    c.fill.ensures.filled)
