@@ -2,7 +2,7 @@
 use Rattle.std.proofs.Common.{◌≡◌, ◌≢◌, ℕ, ◌+◌, ◌-◌, ◌<◌, ◌≤◌, List, [], ◌∷◌, ◌++◌, length, take, drop, get_or, refl, sym, ap, ◌∙◌, subst, ⊎_elim, length-append, arith}
 use Rattle.std.proofs.lemmas.Bool.{cases_eq}
 use Rattle.std.proofs.lemmas.List.{get_or_default, length_push, length-drop, length-take-le, get_or-take, get_or-drop, get_or_append_left, get_or-append-add, get_or_push, same_lists}
-use Rattle.cnf_core.specs.Literals.{Literal, Literals}
+use Rattle.cnf_core.specs.Literals.{Literals}
 use Rattle.flip_literals.specs.Steps.Flat.{LiesAt, IsFlat}
 
 pub flat-nil : IsFlat [] (0 ∷ []) []

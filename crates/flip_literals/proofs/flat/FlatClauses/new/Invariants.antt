@@ -1,5 +1,5 @@
 -- The clauses copied so far lie one behind the other.
-use Rattle.std.proofs.Common.{◌≡◌, ◌≤◌, length, take}
+use Rattle.std.proofs.Common.{◌≡◌, length, take}
 use Rattle.cnf_core.specs.Formulas.{literal_count}
 use Rattle.flip_literals.specs.Steps.Flat.{IsFlat}
 use Rattle.flip_literals.proofs.flat.FlatClauses.new.Given as goal
