@@ -71,7 +71,8 @@ hits_fit F a place j v below =
 hits_clause : (F : Cnf) (a : Assignment) (place j v : ℕ) → place < length F.clauses
     → length (clause_at F place) ≤ j → hits_before F a place j v ≡ hits_before F a (place + 1) 0 v
 hits_clause F a place j v below whole =
-    let clause : sum_by (hits a v) (take (place + 1) F.clauses) ≡ sum_by (hits a v) (take place F.clauses) + hits a v (clause_at F place) =
+    let clause : sum_by (hits a v) (take (place + 1) F.clauses)
+    ≡ sum_by (hits a v) (take place F.clauses) + hits a v (clause_at F place) =
     sum_by_more (hits a v) F.clauses place [] below in
     let all : hits a v (take j (clause_at F place)) ≡ hits a v (clause_at F place) =
     ap (hits a v) (take_all j (clause_at F place) whole) in

@@ -44,8 +44,8 @@ impl Walker {
     /// or for [`MAX_PASSES`] passes. What comes out is a model.
     ///
     /// Answers whether it came to rest: then no candidate that kept its first value can be flipped
-    /// alone. Otherwise each pass flipped at least one. A pass looks at the clauses in which the
-    /// occur, and first at the one that held the variable last. It takes no memory.
+    /// alone. Otherwise each pass flipped at least one. A pass looks, for each candidate with its first value,
+    /// at the clause that held it last, and then at those of its occurrences. It takes no memory.
     pub fn walk(
         &mut self,
         occurrences: &Occurrences,
