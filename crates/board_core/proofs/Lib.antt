@@ -8,3 +8,4 @@ pub mod Ends
 pub mod Views
 pub mod Runs
 pub mod Worked
+pub mod Totals
