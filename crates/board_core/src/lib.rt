@@ -10,7 +10,9 @@ mod event;
 pub mod laws;
 mod opened;
 mod opening;
+mod stored;
 mod view;
+mod wins;
 
 pub use event::Event;
 pub use opened::Opened;

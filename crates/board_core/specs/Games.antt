@@ -1,0 +1,56 @@
+-- A board in memory: what it shows, and which events it can count.
+use Rattle.std.specs.Prelude.{◌≡◌, ℕ, ◌-◌, ◌<◌, ◌^◌, Bool, true, false, List, slice_index}
+use Rattle.board_core.specs.Subjects.{About, about_nothing}
+use Rattle.board_core.specs.Boards.{State, opening, view_at}
+use Rattle.board_core.specs.declared.stored.StoredView.{StoredView}
+use Rattle.board_core.specs.declared.view.View.{View}
+use Rattle.board_core.specs.declared.event.Event.{Event}
+use Rattle.board_core.specs.declared.event.Event.TheVariants.{Load, Drop, Fix, Split, Join, Publish, Origin}
+
+-- what a board was opened for, and its state
+pub record Game : Type 0 where
+  pub about : About
+  pub state : State
+
+abbrev pub game : About → State → Game
+game a s = record { about = a; state = s }
+
+abbrev pub opened : About → Game
+opened a = game a (opening a)
+
+-- a spent view was opened for nothing
+abbrev pub about_left : Bool → About → About
+about_left true a = about_nothing
+about_left false a = a
+
+-- the view of a board for a that stands in memory
+abbrev pub shown : About → StoredView → View
+shown a h = record {
+  about = about_left h.spent a;
+  number = h.number;
+  spent = h.spent;
+  seen = h.seen.items;
+  loaded = h.loaded.items;
+  loads = h.loads.items;
+  drops = h.drops.items;
+  fixes = h.fixes.items;
+  next = h.next;
+  out = h.out.items;
+  published = h.published.items;
+  imports = h.imports.items;
+  looks = h.looks.items;
+}
+
+-- one more fits 64 bits
+abbrev pub IsCountable : List ℕ → ℕ → Type 0
+IsCountable counts k = slice_index counts k < 2 ^ 64 - 1
+
+-- the loads of a group and the looks for a variable can be counted
+abbrev pub CountFits : State → Event → Type 0
+CountFits s (Load id g) = IsCountable (view_at s.views id).loads g
+CountFits s (Drop id g mask) = Unit {0}
+CountFits s (Fix id g mask) = Unit {0}
+CountFits s Split = Unit {0}
+CountFits s (Join id) = Unit {0}
+CountFits s (Publish id x stamp) = Unit {0}
+CountFits s (Origin id x) = IsCountable (view_at s.views id).looks (x - 1)
