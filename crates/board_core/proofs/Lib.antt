@@ -9,3 +9,4 @@ pub mod Views
 pub mod Runs
 pub mod Worked
 pub mod Totals
+pub mod Plays

@@ -1,7 +1,9 @@
 -- A board in memory: what it shows, and which events it can count.
-use Rattle.std.specs.Prelude.{◌≡◌, ℕ, ◌-◌, ◌<◌, ◌^◌, Bool, true, false, List, slice_index}
+use Rattle.std.specs.Prelude.{◌≡◌, ℕ, ◌-◌, ◌<◌, ◌≤◌, ◌^◌, Bool, true, false, List, map, slice_index}
 use Rattle.board_core.specs.Subjects.{About, about_nothing}
 use Rattle.board_core.specs.Boards.{State, opening, view_at}
+use Rattle.board_core.specs.Rules.{IsKept}
+use Rattle.board_core.specs.declared.board.Board.TheInside.{Inside}
 use Rattle.board_core.specs.declared.stored.StoredView.{StoredView}
 use Rattle.board_core.specs.declared.view.View.{View}
 use Rattle.board_core.specs.declared.event.Event.{Event}
@@ -40,6 +42,21 @@ shown a h = record {
   imports = h.imports.items;
   looks = h.looks.items;
 }
+
+-- the state of a board for a whose words, origin words and views stand in memory
+abbrev pub stored : About → List ℕ → List ℕ → List StoredView → State
+stored a ws os hs = record { words = ws; origins = os; views = map (shown a) hs }
+
+abbrev pub state_of : Inside → State
+state_of b = stored b.about b.words.items b.origins.items b.views.items
+
+abbrev pub game_of : Inside → Game
+game_of b = game b.about (state_of b)
+
+-- a board keeps both rules, and its formula is within the limits
+pub record IsBoard (b : Inside) : Type 0 where
+  pub kept : IsKept b.about (state_of b)
+  pub vars : b.about.formula.vars ≤ 2 ^ 20
 
 -- one more fits 64 bits
 abbrev pub IsCountable : List ℕ → ℕ → Type 0

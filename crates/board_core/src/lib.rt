@@ -6,6 +6,7 @@
 //! machine in `Boards`, what it keeps in `Rules`.
 #![tactic(auto)]
 
+mod board;
 mod event;
 pub mod laws;
 mod opened;
@@ -14,6 +15,7 @@ mod stored;
 mod view;
 mod wins;
 
+pub use board::Board;
 pub use event::Event;
 pub use opened::Opened;
 pub use opening::opening_words;
