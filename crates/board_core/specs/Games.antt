@@ -1,7 +1,7 @@
 -- A board in memory: what it shows, and which events it can count.
-use Rattle.std.specs.Prelude.{◌≡◌, ℕ, ◌-◌, ◌<◌, ◌≤◌, ◌^◌, Bool, true, false, List, map, slice_index}
+use Rattle.std.specs.Prelude.{◌≡◌, ℕ, ◌-◌, ◌<◌, ◌≤◌, ◌^◌, Bool, true, false, List, [], ◌∷◌, map, slice_index}
 use Rattle.board_core.specs.Subjects.{About, about_nothing}
-use Rattle.board_core.specs.Boards.{State, opening, view_at}
+use Rattle.board_core.specs.Boards.{State, opening, view_at, after}
 use Rattle.board_core.specs.Rules.{IsKept}
 use Rattle.board_core.specs.declared.board.Board.TheInside.{Inside}
 use Rattle.board_core.specs.declared.stored.StoredView.{StoredView}
@@ -71,3 +71,8 @@ CountFits s Split = Unit {0}
 CountFits s (Join id) = Unit {0}
 CountFits s (Publish id x stamp) = Unit {0}
 CountFits s (Origin id x) = IsCountable (view_at s.views id).looks (x - 1)
+
+-- the same of each event in turn
+abbrev pub AreCountable : State → List Event → Type 0
+AreCountable s [] = Unit {0}
+AreCountable s (e ∷ es) = CountFits s e × AreCountable (after s e) es

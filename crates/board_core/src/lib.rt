@@ -12,6 +12,8 @@ pub mod laws;
 mod opened;
 mod opening;
 mod stored;
+#[cfg(test)]
+mod tests;
 mod view;
 mod wins;
 
