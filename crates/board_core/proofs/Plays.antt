@@ -1,9 +1,9 @@
 -- A board in memory after each event.
-use Rattle.std.proofs.Common.{◌≡◌, ◌≢◌, ℕ, zero, suc, ◌+◌, ◌-◌, ◌<◌, ◌≤◌, List, [], ◌∷◌, ◌++◌, length, map, get_or, replicate, refl, sym, ap, ◌∙◌, subst, ◌⊎◌, inl, inr, ⊎_elim, arith}
+use Rattle.std.proofs.Common.{◌≡◌, ℕ, zero, suc, ◌+◌, ◌-◌, ◌<◌, ◌≤◌, List, [], ◌∷◌, ◌++◌, length, map, get_or, replicate, refl, sym, ap, ◌∙◌, subst, ◌⊎◌, inl, inr, ⊎_elim, arith}
 use Rattle.std.specs.Prelude.{slice_index, slice_set, bit_or, nat_lt, Result, Ok, Err, OnOk, OnErr}
 use Rattle.std.proofs.lemmas.Bool.{cases_lt}
 use Rattle.std.proofs.lemmas.List.Sums.{count_by-le-length}
-use Rattle.std.proofs.lemmas.List.{map-set, get_or-map, map_push, set-get_or, get_or-set_other, length-map}
+use Rattle.std.proofs.lemmas.List.{map-set, get_or-map, map_push, set-get_or, length-map}
 use Rattle.board_core.specs.Subjects.{About, groups}
 use Rattle.board_core.specs.Words.{without, with_fixed}
 use Rattle.board_core.specs.Boards.{State, after, stepped, view_at, spent_view, IsLawful, load_view, drop_view, fix_view, parent, child, joined, publish_view, origin_view, origin_of, opening_words, root_view, opening}
@@ -83,7 +83,7 @@ stays_set a ws os hs g id h k same kept low here step =
 stepped_is : (a : About) (ws os : List ℕ) (hs : List StoredView) (id g w n : ℕ) (h k : StoredView) (F : ℕ → ℕ) (V : ℕ → View → View)
     → id < length hs → g < length ws → h ≡ get_or hs id h → w ≡ get_or ws g w → n ≡ F w → shown a k ≡ V w (shown a h)
     → stored a (slice_set ws g n) os (slice_set hs id k)
-      ≡ stepped (stored a ws os hs) id g (F (slice_index ws g)) (V (slice_index ws g) (view_at (map (shown a) hs) id))
+    ≡ stepped (stored a ws os hs) id g (F (slice_index ws g)) (V (slice_index ws g) (view_at (map (shown a) hs) id))
 stepped_is a ws os hs id g w n h k F V low group here word new step =
     let found : w ≡ slice_index ws g = word_there ws g w group word in
     let words : slice_set ws g n ≡ slice_set ws g (F (slice_index ws g)) = ap (slice_set ws g) (new ∙ ap F found) in
@@ -157,7 +157,7 @@ joins a ws os hs g id h o k c same kept lawful here there both gone =
     let first : shown a h ≡ view_at (map (shown a) hs) 0 = sym (view_there a hs 0 h low here) in
     let other : shown a o ≡ view_at (map (shown a) hs) id = sym (view_there a hs id o (inside a hs id own.within) there) in
     let views : map (shown a) (slice_set (slice_set hs 0 k) id c)
-        ≡ slice_set (slice_set (map (shown a) hs) 0 (joined (view_at (map (shown a) hs) 0) (view_at (map (shown a) hs) id))) id spent_view =
+    ≡ slice_set (slice_set (map (shown a) hs) 0 (joined (view_at (map (shown a) hs) 0) (view_at (map (shown a) hs) id))) id spent_view =
     map-set (shown a) (slice_set hs 0 k) id c
     ∙ ap (λ (vs : List View). slice_set vs id (shown a c)) (map-set (shown a) hs 0 k)
     ∙ ap (λ (v : View). slice_set (slice_set (map (shown a) hs) 0 (shown a k)) id v) (gone a)

@@ -1,5 +1,5 @@
 -- A board in memory: what it shows, and which events it can count.
-use Rattle.std.specs.Prelude.{◌≡◌, ℕ, ◌-◌, ◌<◌, ◌≤◌, ◌^◌, Bool, true, false, List, [], ◌∷◌, map, slice_index}
+use Rattle.std.specs.Prelude.{ℕ, ◌-◌, ◌<◌, ◌≤◌, ◌^◌, Bool, true, false, List, [], ◌∷◌, map, slice_index}
 use Rattle.board_core.specs.Subjects.{About, about_nothing}
 use Rattle.board_core.specs.Boards.{State, opening, view_at, after}
 use Rattle.board_core.specs.Rules.{IsKept}

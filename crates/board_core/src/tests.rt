@@ -95,6 +95,9 @@ fn the_root_takes_in_what_another_view_fixed(rt: HostRuntime) -> Result<(), Fail
     apply_all(&mut board, &EVENTS)?;
     assert_eq!(rt; root_drops(&board), [1].as_slice());
     assert_eq!(rt; root_fixes(&board), [32].as_slice());
-    assert_eq!(rt; (board.word(0), board.word(1)), (9_223_372_041_149_743_102, 1));
+    assert_eq!(rt;
+        (board.word(0), board.word(1)),
+        (9_223_372_041_149_743_102, 1)
+    );
     Ok(())
 }

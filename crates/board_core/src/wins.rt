@@ -42,7 +42,11 @@ pub(crate) fn met_words(alloc: Global, left: &[u64], right: &[u64]) -> Result<Ve
 }
 
 /// The numbers but this one.
-pub(crate) fn without_number(alloc: Global, number: u32, numbers: &[u32]) -> Result<Vec<u32>, NoMemory>
+pub(crate) fn without_number(
+    alloc: Global,
+    number: u32,
+    numbers: &[u32],
+) -> Result<Vec<u32>, NoMemory>
     ensures { IfOk result (λ rest. rest.items ≡ without_number number numbers.now) }
 {
     let mut rest = Vec::new(alloc);

@@ -1,6 +1,6 @@
-use Rattle.std.proofs.Common.{ℕ, List, ◌++◌, ◌∷◌, [], sym, ap, ◌∙◌, take, arith}
+use Rattle.std.proofs.Common.{ℕ, List, ◌++◌, ◌∷◌, [], sym, ap, ◌∙◌, arith}
 use Rattle.std.specs.Prelude.{slice_index}
-use Rattle.board_core.specs.Words.{met, met_words}
+use Rattle.board_core.specs.Words.{met}
 use Rattle.board_core.proofs.Seats.{met_words_more}
 use Rattle.board_core.proofs.wins.met_words.Goals as goal
 

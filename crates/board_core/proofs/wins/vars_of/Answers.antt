@@ -1,4 +1,4 @@
-use Rattle.std.proofs.Common.{ℕ, suc, ◌*◌, refl, sym, ◌∙◌, arith}
+use Rattle.std.proofs.Common.{suc, ◌*◌, refl, sym, ◌∙◌, arith}
 use Rattle.std.proofs.lemmas.Nat.Bits.{shr_and_one}
 use Rattle.board_core.proofs.Bits.{vars_from_start, vars_of_upto, vars_next}
 use Rattle.board_core.proofs.wins.vars_of.Goals as goal

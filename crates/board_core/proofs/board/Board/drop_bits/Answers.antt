@@ -1,5 +1,4 @@
 use Rattle.std.proofs.Common.{ℕ, ap}
-use Rattle.std.specs.Prelude.{bit_and, bit_or}
 use Rattle.board_core.specs.Words.{without}
 use Rattle.board_core.proofs.Plays.{drops, stays_set}
 use Rattle.board_core.proofs.board.Board.drop_bits.Goals as goal

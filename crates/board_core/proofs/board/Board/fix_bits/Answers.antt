@@ -1,6 +1,5 @@
 use Rattle.std.proofs.Common.{◌≡◌, ℕ, ◌*◌, ◌%◌, ap, arith}
-use Rattle.std.specs.Prelude.{bit_and, bit_or}
-use Rattle.board_core.specs.Words.{with_fixed}
+use Rattle.std.specs.Prelude.{bit_or}
 use Rattle.board_core.proofs.Plays.{fixes, stays_set}
 use Rattle.board_core.proofs.board.Board.fix_bits.Goals as goal
 

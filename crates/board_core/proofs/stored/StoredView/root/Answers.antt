@@ -1,6 +1,6 @@
-use Rattle.std.proofs.Common.{◌≡◌, ℕ, List, [], replicate, length, false, refl, sym, ap, ◌∙◌, arith}
+use Rattle.std.proofs.Common.{◌≡◌, ℕ, replicate, length, false, sym, ap, ◌∙◌, arith}
 use Rattle.cnf_core.specs.Formulas.{Cnf}
-use Rattle.board_core.specs.Subjects.{About, groups}
+use Rattle.board_core.specs.Subjects.{groups}
 use Rattle.board_core.specs.Boards.{opening_words}
 use Rattle.board_core.proofs.Ends.{opening_are_words}
 use Rattle.board_core.proofs.stored.StoredView.root.Goals as goal
