@@ -1,4 +1,4 @@
--- What the tests know of a formula with two of its models.
+-- What tests and benches know of a formula with two of its models.
 use Rattle.std.specs.Prelude.{◌≡◌, ℕ, ◌<◌}
 use Rattle.cnf_core.specs.Literals.{Assignment}
 use Rattle.cnf_core.specs.Formulas.{Cnf, IsModel}

@@ -1,8 +1,8 @@
 use Rattle.std.proofs.Common.{◌≡◌, ◌∷◌, [], Contains, Bool, true, sym, ap, ◌∙◌, subst}
 use Rattle.cnf_core.specs.Literals.{Literal}
 use Rattle.cnf_core.specs.Formulas.{is_shown, true_literal}
-use Rattle.shared_fixed.proofs.Cases.{given_one}
-use Rattle.shared_fixed.proofs.tests.is_given.Goals as goal
+use Rattle.table_cases.proofs.Cases.{given_one}
+use Rattle.table_cases.proofs.is_given.Goals as goal
 
 pub returns : goal.returns
 returns c found =

@@ -1,4 +1,4 @@
--- What the tests look for in a formula gives what the table asks.
+-- What is looked for in a formula gives what the table asks.
 use Rattle.std.proofs.Common.{◌≡◌, ◌≢◌, ℕ, suc, ◌+◌, ◌*◌, ◌/◌, ◌%◌, ◌<◌, ◌≤◌, ◌&&◌, ◌||◌, Bool, true, false, not, IsTrue, [], ◌∷◌, List, length, Contains, true≢false, refl, sym, ap, ◌∙◌, subst, arith}
 use mathlib.Core.Bool.{beq}
 use Rattle.std.proofs.lemmas.Bool.{and_parts}
@@ -7,13 +7,7 @@ use Rattle.cnf_core.specs.Formulas.{Cnf, IsModel, IsAgainst, is_shown, Entails, 
 use Rattle.cnf_core.proofs.Models.{entails_by}
 use Rattle.cnf_core.proofs.Lists.{passes_of_list_all}
 use Rattle.board_core.specs.Subjects.{About, about, flag, candidate, Opposed, Entailed}
-use Rattle.std.specs.Int.{bit_at}
-use Rattle.board_core.specs.Words.{newly, vars_of, times, named}
-use Rattle.board_core.specs.Boards.{fix_view, MayPublish}
-use Rattle.board_core.specs.declared.view.View.{View}
-use Rattle.board_core.proofs.Bits.{times-append, times_vars_of}
-use Rattle.candidate_words.specs.Seats.{Sitter, HasFixed}
-use Rattle.shared_fixed.specs.Cases.{IsCase, IsOne}
+use Rattle.table_cases.specs.Cases.{IsCase, IsOne}
 
 pub opposed_one : (F : Cnf) (phases other : Assignment) (x : ℕ) → IsCase F phases other → is_shown F x ≡ true
     → value_of other x ≡ not (value_of phases x) → IsOne (about F phases) (Opposed (about F phases)) x
@@ -44,17 +38,3 @@ differ true true ne = absurd (true≢false (sym ne))
 differ true false ne = refl
 differ false true ne = refl
 differ false false ne = absurd (true≢false (sym ne))
-
--- a seat that has won variable 1 and published nothing may publish it with stamp 1
-pub publish_ready : (s t : Sitter) (answer : ℕ) → HasFixed s 0 1 answer t → answer ≡ 1 → s.view.published ≡ [] → MayPublish t.view 1 1
-publish_ready s t answer has won none =
-    let view : t.view ≡ fix_view 0 1 has.found s.view = ap (λ (u : Sitter). u.view) has.seat in
-    let bits : newly has.found 1 ≡ 1 = sym has.answer_is ∙ won in
-    let one : times 1 (vars_of 0 (newly has.found 1)) ≡ 1 =
-    times_vars_of 0 0 (newly has.found 1) (let e : 0 / 32 ≡ 0 = refl in e) ∙ ap (λ (m : ℕ). bit_at m (0 % 32)) bits in
-    subst (λ (v : View). MayPublish v 1 1) (sym view) (record {
-      fixed = omega (arith, times-append 1 s.view.fixes (vars_of 0 (newly has.found 1)), one);
-      unpublished = ap (named 1) none;
-      low = omega arith;
-      high = omega arith;
-    })

@@ -1,8 +1,8 @@
 use Rattle.std.proofs.Common.{◌≡◌, Bool, not, true, sym, ap, ◌∙◌}
 use Rattle.cnf_core.specs.Literals.{value_of}
 use Rattle.cnf_core.specs.Formulas.{is_shown}
-use Rattle.shared_fixed.proofs.Cases.{opposed_one, differ}
-use Rattle.shared_fixed.proofs.tests.is_opposed.Goals as goal
+use Rattle.table_cases.proofs.Cases.{opposed_one, differ}
+use Rattle.table_cases.proofs.is_opposed.Goals as goal
 
 pub returns : goal.returns
 returns c apart =
