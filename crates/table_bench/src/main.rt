@@ -20,12 +20,14 @@ use table_cases::Case;
 const VARS: u32 = 1_048_576;
 
 /// The formula that says that variable 1 is false, its model where all are false, and that where 2 alone is true.
-fn make_case(alloc: Global) -> Result<Case, NoMemory> {
+fn make_case(alloc: Global, vars: u32) -> Result<Case, NoMemory>
+    requires { (2 ≤ vars) × (vars ≤ 2 ^ 20) }
+{
     let mut lits = Vec::new(alloc);
     lits.push(Lit::new(1, false))?;
-    let mut formula = Formula::new(alloc, VARS);
+    let mut formula = Formula::new(alloc, vars);
     formula.push(Clause { lits })?;
-    let phases = Values::new(alloc, VARS)?;
+    let phases = Values::new(alloc, vars)?;
     let mut other = phases.copy()?;
     other.set(2, true);
     Ok(Case {
@@ -49,7 +51,7 @@ fn main(rt: HostRuntime) -> anyhow::Result<()> {
         drops,
         fixes,
     };
-    let case = make_case(rt.alloc())?;
+    let case = make_case(rt.alloc(), VARS)?;
     let Some(counts) = run(rt.alloc(), &case, rounds)? else {
         return Err(anyhow!("the formula has no such models"));
     };
