@@ -1,6 +1,6 @@
 -- What an answer of `origin` puts into the view.
 use Rattle.std.proofs.Common.{◌≡◌, ℕ, suc, ◌+◌, ◌++◌, [], ◌∷◌, List, max, Contains, refl, sym, ap, ◌∙◌, subst, arith}
-use Rattle.std.specs.Prelude.{Option, Some, fold}
+use Rattle.std.specs.Prelude.{Some, fold}
 use Rattle.std.proofs.lemmas.List.Elements.{Contains-append_left, Contains-push}
 use Rattle.board_core.specs.Boards.{stamped, told, top}
 use Rattle.board_core.specs.declared.view.Stamped.{Stamped}

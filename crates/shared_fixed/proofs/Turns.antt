@@ -1,5 +1,5 @@
 -- What the seats of the tests have after a step.
-use Rattle.std.proofs.Common.{◌≡◌, ℕ, ◌+◌, ◌/◌, ◌%◌, ◌<◌, ◌≤◌, [], refl, sym, ap, ◌∙◌, subst, arith}
+use Rattle.std.proofs.Common.{◌≡◌, ℕ, ◌/◌, ◌%◌, [], refl, sym, ap, ◌∙◌, subst, arith}
 use Rattle.std.specs.Int.{bit_at}
 use Rattle.board_core.specs.Words.{newly, vars_of, times, named}
 use Rattle.board_core.specs.Boards.{fix_view, MayPublish}

@@ -27,6 +27,7 @@ pub struct Counts {
 
 /// The mask of variable 1, which is fixed, and that of variable 2, which is dropped.
 const FIRST: u32 = 1;
+
 const SECOND: u32 = 2;
 
 /// Loads the groups from 0 on.

@@ -1,12 +1,11 @@
 -- What is looked for in a formula gives what the table asks.
-use Rattle.std.proofs.Common.{◌≡◌, ◌≢◌, ℕ, suc, ◌+◌, ◌*◌, ◌/◌, ◌%◌, ◌<◌, ◌≤◌, ◌&&◌, ◌||◌, Bool, true, false, not, IsTrue, [], ◌∷◌, List, length, Contains, true≢false, refl, sym, ap, ◌∙◌, subst, arith}
+use Rattle.std.proofs.Common.{◌≡◌, ℕ, ◌||◌, Bool, true, false, not, [], ◌∷◌, Contains, true≢false, refl, sym, ap}
 use mathlib.Core.Bool.{beq}
-use Rattle.std.proofs.lemmas.Bool.{and_parts}
-use Rattle.cnf_core.specs.Literals.{Literal, Literals, Assignment, value_of, is_true, clause_true, all_true}
-use Rattle.cnf_core.specs.Formulas.{Cnf, IsModel, IsAgainst, is_shown, Entails, true_literal}
+use Rattle.cnf_core.specs.Literals.{Literal, Assignment, value_of, is_true, clause_true}
+use Rattle.cnf_core.specs.Formulas.{Cnf, is_shown, Entails, true_literal}
 use Rattle.cnf_core.proofs.Models.{entails_by}
 use Rattle.cnf_core.proofs.Lists.{passes_of_list_all}
-use Rattle.board_core.specs.Subjects.{About, about, flag, candidate, Opposed, Entailed}
+use Rattle.board_core.specs.Subjects.{about, flag, candidate, Opposed, Entailed}
 use Rattle.table_cases.specs.Cases.{IsCase, IsOne}
 
 pub opposed_one : (F : Cnf) (phases other : Assignment) (x : ℕ) → IsCase F phases other → is_shown F x ≡ true

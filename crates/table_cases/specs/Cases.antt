@@ -2,7 +2,7 @@
 use Rattle.std.specs.Prelude.{◌≡◌, ℕ, ◌<◌}
 use Rattle.cnf_core.specs.Literals.{Assignment}
 use Rattle.cnf_core.specs.Formulas.{Cnf, IsModel}
-use Rattle.board_core.specs.Subjects.{About, about, candidate, Opposed, Entailed}
+use Rattle.board_core.specs.Subjects.{About, candidate}
 
 -- a formula with a variable or more, the model that gives the phases, and another model
 pub record IsCase (F : Cnf) (phases other : Assignment) : Type 0 where

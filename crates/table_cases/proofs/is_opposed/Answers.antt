@@ -1,4 +1,4 @@
-use Rattle.std.proofs.Common.{◌≡◌, Bool, not, true, sym, ap, ◌∙◌}
+use Rattle.std.proofs.Common.{◌≡◌, not, true, sym, ap, ◌∙◌}
 use Rattle.cnf_core.specs.Literals.{value_of}
 use Rattle.cnf_core.specs.Formulas.{is_shown}
 use Rattle.table_cases.proofs.Cases.{opposed_one, differ}

@@ -1,4 +1,4 @@
-use Rattle.std.proofs.Common.{◌≡◌, ◌+◌, ℕ, All, List, ap, sym, ◌∙◌, subst}
+use Rattle.std.proofs.Common.{◌+◌, ℕ, All, List, ap, sym, ◌∙◌, subst}
 use Rattle.std.proofs.lemmas.List.Elements.{All-push}
 use Rattle.candidate_words.specs.Seats.{Sitter, Sits}
 use Rattle.shared_fixed.specs.declared.tests.Turn.{Turn}
