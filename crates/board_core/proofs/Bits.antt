@@ -1,10 +1,11 @@
 -- The bits of words after each operation, and how often the variables of a mask stand in their list.
-use Rattle.std.proofs.Common.{◌≡◌, ◌≢◌, ℕ, zero, suc, ◌+◌, ◌-◌, ◌*◌, ◌/◌, ◌%◌, ◌<◌, ◌≤◌, ◌⊎◌, min, max, refl, sym, ap, ◌∙◌, subst, inl, inr, ⊎_elim, ◌++◌, List, arith, add-zero}
+use Rattle.std.proofs.Common.{◌≡◌, ◌≢◌, ℕ, zero, suc, ◌+◌, ◌-◌, ◌*◌, ◌/◌, ◌%◌, ◌<◌, ◌≤◌, ◌⊎◌, min, max, refl, sym, ap, ◌∙◌, subst, inl, inr, ⊎_elim, ◌++◌, List, [], arith, add-zero, append_assoc}
 use Rattle.std.specs.Prelude.{bit_and, bit_or}
 use Rattle.std.specs.Int.{bit_at}
 use Rattle.std.proofs.lemmas.Bool.{eq-eqb, ne_eqb}
 use Rattle.std.proofs.lemmas.Nat.{div-add-mod'}
 use Rattle.std.proofs.lemmas.Nat.Bits.{bit_at_and, bit_at_or, bit_at_xor, bit_at_not, bit_at_above, bit_at_cat_low, bit_at_cat_high, bit_at_mask_inside, bit_at_mask_below, bit_at_ones, bit_at_ones_above, bit_at-lt, bit_at-suc, bit_at_lowest, bit_at-zero}
+use Rattle.std.proofs.lemmas.List.{append-nil}
 use Rattle.std.proofs.lemmas.List.Sums.{sum_by-append}
 use mir.Syntax.{w64}
 use Rattle.board_core.specs.Words.{without, with_fixed, cleared, newly, met, var_if, vars_from, vars_of, times}
@@ -139,3 +140,37 @@ times_vars_else c g mask other =
 pub times_vars_zero : (g mask : ℕ) → times 0 (vars_of g mask) ≡ 0
 unfolding vars_of
 times_vars_zero g mask = times_from_else 32 (suc (32 * g)) mask 0 (inl (omega arith))
+
+-- one bit more
+pub vars_from_more : (k x mask : ℕ) → vars_from (suc k) x mask ≡ vars_from k x mask ++ var_if (bit_at mask k) (x + k)
+unfolding vars_from
+vars_from_more zero x mask =
+    let here : x ≡ x + 0 = omega arith in
+    append-nil (var_if (mask % 2) x) ∙ ap (λ (b : ℕ). var_if b x) (sym (bit_at_lowest mask)) ∙ ap (λ (y : ℕ). var_if (bit_at mask 0) y) here
+vars_from_more (suc k) x mask =
+    let place : suc x + k ≡ x + suc k = omega arith in
+    ap (λ (ys : List ℕ). var_if (mask % 2) x ++ ys) (vars_from_more k (suc x) (mask / 2))
+    ∙ sym (append_assoc (var_if (mask % 2) x) (vars_from k (suc x) (mask / 2)) (var_if (bit_at (mask / 2) k) (suc x + k)))
+    ∙ ap (λ (b : ℕ). (var_if (mask % 2) x ++ vars_from k (suc x) (mask / 2)) ++ var_if b (suc x + k)) (sym (bit_at-suc mask k))
+    ∙ ap (λ (y : ℕ). (var_if (mask % 2) x ++ vars_from k (suc x) (mask / 2)) ++ var_if (bit_at mask (suc k)) y) place
+
+pub vars_of_upto : (g mask k : ℕ) → k ≡ 32 → vars_from k (suc (32 * g)) mask ≡ vars_of g mask
+unfolding vars_of
+vars_of_upto g mask k all = ap (λ (n : ℕ). vars_from n (suc (32 * g)) mask) all
+
+pub vars_from_start : (x mask : ℕ) → vars_from 0 x mask ≡ []
+unfolding vars_from
+vars_from_start x mask = refl
+
+-- the variables of one bit more
+pub vars_next : (g mask k b var : ℕ) (now next : List ℕ) → bit_at mask k ≡ b → var ≡ 32 * g + k + 1
+    → now ≡ vars_from k (suc (32 * g)) mask → next ≡ now ++ var_if b var → next ≡ vars_from (k + 1) (suc (32 * g)) mask
+vars_next g mask k b var now next bit var_is before step =
+    let place : var ≡ suc (32 * g) + k = omega arith in
+    let more : suc k ≡ k + 1 = omega arith in
+    step
+    ∙ ap (λ (xs : List ℕ). xs ++ var_if b var) before
+    ∙ ap (λ (y : ℕ). vars_from k (suc (32 * g)) mask ++ var_if b y) place
+    ∙ ap (λ (c : ℕ). vars_from k (suc (32 * g)) mask ++ var_if c (suc (32 * g) + k)) (sym bit)
+    ∙ sym (vars_from_more k (suc (32 * g)) mask)
+    ∙ ap (λ (n : ℕ). vars_from n (suc (32 * g)) mask) more

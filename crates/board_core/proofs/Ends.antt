@@ -349,7 +349,7 @@ word_fits F x k n is low =
     omega (arith, word_from-lt F x k, most)
 
 pub word_more : (F : Cnf) (last done word bit : ℕ) → word ≡ word_from F (last + 1 - done) done → done ≤ last
-    → bit ≡ flag (is_shown F (last - done)) → 2 * word + bit ≡ word_from F (last + 1 - (done + 1)) (done + 1)
+    → bit ≡ candidate F (last - done) → 2 * word + bit ≡ word_from F (last + 1 - (done + 1)) (done + 1)
 unfolding word_from candidate
 word_more F last done word bit is low bit_is =
     let start : last + 1 - (done + 1) ≡ last - done = omega arith in

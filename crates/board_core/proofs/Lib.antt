@@ -8,3 +8,5 @@ pub mod Ends
 pub mod Views
 pub mod Runs
 pub mod Worked
+pub mod Totals
+pub mod Plays

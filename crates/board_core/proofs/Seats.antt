@@ -1,5 +1,5 @@
 -- Splitting off a view, taking one in, and changes that no group's word and no drop or fix sees, keep the rule.
-use Rattle.std.proofs.Common.{◌≡◌, ◌≢◌, ℕ, zero, suc, ◌+◌, ◌<◌, ◌≤◌, Bool, true, false, cond, List, [], ◌∷◌, ◌++◌, length, refl, sym, ap, ◌∙◌, subst, ⊎_elim, arith, true≢false}
+use Rattle.std.proofs.Common.{◌≡◌, ◌≢◌, ℕ, zero, suc, ◌+◌, ◌<◌, ◌≤◌, Bool, true, false, cond, List, [], ◌∷◌, ◌++◌, length, take, refl, sym, ap, ◌∙◌, subst, ⊎_elim, arith, true≢false}
 use Rattle.std.specs.Prelude.{nat_lt, nat_eq, not, ◌&&◌, slice_index, slice_set}
 use Rattle.std.specs.List.{sum_by}
 use Rattle.std.proofs.lemmas.Bool.{cases_eq, eq-eqb, ne_eqb, lt-ltb}
@@ -137,6 +137,19 @@ met_words_at [] ys g low same = absurd (omega arith)
 met_words_at (x ∷ xs) [] g low same = absurd (omega arith)
 met_words_at (x ∷ xs) (y ∷ ys) zero low same = refl
 met_words_at (x ∷ xs) (y ∷ ys) (suc g) low same = met_words_at xs ys g (omega arith) (omega arith)
+
+met_words_next : (xs ys : List ℕ) (g : ℕ) → g < length xs → length xs ≡ length ys
+    → met_words (take (suc g) xs) (take (suc g) ys) ≡ met_words (take g xs) (take g ys) ++ met (slice_index xs g) (slice_index ys g) ∷ []
+met_words_next [] ys g low same = absurd (omega arith)
+met_words_next (x ∷ xs) [] g low same = absurd (omega arith)
+met_words_next (x ∷ xs) (y ∷ ys) zero low same = refl
+met_words_next (x ∷ xs) (y ∷ ys) (suc g) low same = ap (λ (ws : List ℕ). met x y ∷ ws) (met_words_next xs ys g (omega arith) (omega arith))
+
+pub met_words_more : (xs ys : List ℕ) (g : ℕ) → g < length xs → length xs ≡ length ys
+    → met_words (take (g + 1) xs) (take (g + 1) ys) ≡ met_words (take g xs) (take g ys) ++ met (slice_index xs g) (slice_index ys g) ∷ []
+met_words_more xs ys g low same =
+    let more : g + 1 ≡ suc g = omega arith in
+    ap (λ (n : ℕ). met_words (take n xs) (take n ys)) more ∙ met_words_next xs ys g low same
 
 pub met_inside : (a : About) (xs ys : List ℕ) → AreWords a xs → AreWords a ys → AreWords a (met_words xs ys)
 met_inside a xs ys left right =

@@ -52,6 +52,15 @@ is_once a s id rule unspent =
 pub view_root : (a : About) → IsView a (root_view a)
 view_root a = is_view a _ 0 (opens a) (clocks_open a) refl
 
+pub once_root : (a : About) → IsOnce a (root_view a)
+once_root a = is_once a _ 0 (opens a) refl
+
+pub once_parent : (a : About) (v : View) → IsOnce a v → IsOnce a (parent v)
+once_parent a v once = record { drops = once.drops; fixes = once.fixes }
+
+pub once_child : (a : About) (v : View) → IsOnce a (child v)
+once_child a v = record { drops = λ x. omega arith; fixes = λ x. omega arith }
+
 pub view_parent : (a : About) (v : View) → IsView a v → IsView a (parent v)
 view_parent a v is = record {
   about = is.about;

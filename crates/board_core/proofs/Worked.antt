@@ -39,6 +39,7 @@ may_fix_last i within set_bit =
 pub run_is_worked : RunIsWorked
 unfolding candidate word_from opening_word vars_from vars_of
 run_is_worked = record {
+  model = record { values = refl; satisfied = refl };
   lawful = (
     record { within = omega arith; unspent = refl; group = omega arith },
     (
@@ -52,6 +53,7 @@ run_is_worked = record {
       ),
     ),
   );
+  countable = (omega arith, (tt, (tt, (tt, (tt, tt)))));
   words = refl;
   drops = refl;
   fixes = refl;

@@ -1,9 +1,10 @@
 -- A small run of a board, worked by the definitions: the clauses 32 and -33 over 33 variables.
 use Rattle.std.specs.Prelude.{◌≡◌, true, false, None, List, [], ◌∷◌, ◌++◌, replicate}
 use Rattle.cnf_core.specs.Literals.{Literal, Assignment}
-use Rattle.cnf_core.specs.Formulas.{Cnf}
+use Rattle.cnf_core.specs.Formulas.{Cnf, IsModel}
 use Rattle.board_core.specs.Subjects.{About, about}
 use Rattle.board_core.specs.Boards.{State, opening, AreLawful, after_all, view_at}
+use Rattle.board_core.specs.Games.{AreCountable}
 use Rattle.board_core.specs.declared.event.Event.{Event}
 use Rattle.board_core.specs.declared.event.Event.TheVariants.{Load, Drop, Fix, Split, Join}
 
@@ -31,7 +32,9 @@ abbrev pub ended : State
 ended = after_all (opening subject) events
 
 pub record RunIsWorked : Type 0 where
+  pub model : IsModel two_units phases
   pub lawful : AreLawful subject (opening subject) events
+  pub countable : AreCountable (opening subject) events
   pub words : ended.words ≡ 9223372041149743102 ∷ 1 ∷ []
   pub drops : (view_at ended.views 0).drops ≡ 1 ∷ []
   pub fixes : (view_at ended.views 0).fixes ≡ 32 ∷ []

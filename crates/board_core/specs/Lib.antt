@@ -4,3 +4,4 @@ pub mod Boards
 pub mod Rules
 pub mod Laws
 pub mod Example
+pub mod Games

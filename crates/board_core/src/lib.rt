@@ -6,12 +6,18 @@
 //! machine in `Boards`, what it keeps in `Rules`.
 #![tactic(auto)]
 
+mod board;
 mod event;
 pub mod laws;
 mod opened;
 mod opening;
+mod stored;
+#[cfg(test)]
+mod tests;
 mod view;
+mod wins;
 
+pub use board::Board;
 pub use event::Event;
 pub use opened::Opened;
 pub use opening::opening_words;

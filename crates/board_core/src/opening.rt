@@ -1,10 +1,18 @@
 ghost use Rattle.std.specs.Prelude.{◌≡◌, ◌<◌, ◌≤◌, ◌^◌, IfOk};
-ghost use Rattle.board_core.specs.Subjects.{groups};
+ghost use Rattle.board_core.specs.Subjects.{groups, candidate};
 ghost use Rattle.board_core.specs.Words.{opening_word};
 ghost use Rattle.board_core.specs.Boards.{opening_words};
 
 use cnf_core::{Formula, NoMemory};
 use std::alloc::Global;
+
+/// 1 where the variable is a candidate, else 0.
+#[tactic(auto, using(crate::proofs::Ends::byte_flag), unfolding(crate::specs::Subjects::candidate))]
+fn candidate_bit(formula: &Formula, var: u32) -> u64
+    ensures { result ≡ candidate formula.now var }
+{
+    u64::from(formula.is_shown(var))
+}
 
 /// The word of a group where all candidates are alive and none is fixed.
 fn opening_word(formula: &Formula, group: u32) -> u64
@@ -14,7 +22,7 @@ fn opening_word(formula: &Formula, group: u32) -> u64
     let last = 32 * group + 32;
     let mut word = 0;
     for done in 0..32 {
-        word = 2 * word + u64::from(formula.is_shown(last - done));
+        word = 2 * word + candidate_bit(formula, last - done);
     }
     word
 }

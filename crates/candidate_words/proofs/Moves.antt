@@ -22,7 +22,7 @@ use Rattle.board_core.proofs.Views.{is_view, is_once}
 use Rattle.board_core.proofs.Runs.{kept_after, fixed_within, fixed-le-one}
 use Rattle.candidate_words.specs.Seats.{Board, Sitter, Sits, TellsOrigin}
 use Rattle.candidate_words.specs.Steps.Tables.{board_of, Holds}
-use Rattle.candidate_words.specs.Steps.Plays.{Becomes, Found, Loaded, Dropped, Fixed, var_of, Published, Asked}
+use Rattle.candidate_words.specs.Steps.Plays.{Becomes, Found, Loaded, Dropped, Fixed, var_of, Published, Asked, Looked}
 
 -- a view that is looked up
 pub view_from : (vs : List View) (id : ℕ) (v : View) → get_elem? vs id ≡ some v → view_at vs id ≡ v
@@ -312,6 +312,27 @@ pub may_ask : (a : About) (id word slots x : ℕ) (me : Me ℕ View) → IsView 
     → Allows (Holds a) slots id me word (λ n. n) (Asked (step slots word 0 0 none) me)
 may_ask a id word slots x me is low high place =
     subst (λ (w : ℕ). Allows (Holds a) slots id me w (λ n. n) (Asked (step slots w 0 0 none) me)) (sym place) (ask_at a id slots x me is low high)
+
+-- a load that leaves all as it is
+pub may_look : (a : About) (id slots : ℕ) (me : Me ℕ View) → IsView a me.0
+    → Allows (Holds a) slots id me 0 (λ n. n) (Looked (step slots 0 0 0 none) me)
+may_look a id slots me is = λ t kept homes at range.
+    let here : view_at t.views id ≡ me.0 = view_from t.views id me.0 at in
+    let unspent : (view_at t.views id).spent ≡ false = ap (λ (v : View). v.spent) here ∙ is.unspent in
+    let words : slice_set t.words 0 (slice_index t.words 0) ≡ t.words = set-get_or t.words 0 0 in
+    let views : slice_set t.views id me.0 ≡ t.views =
+    ap (λ (v : View). slice_set t.views id v) (sym here) ∙ set-get_or t.views id spent_view in (
+      me.0,
+      keeps,
+      tt,
+      subst (λ (ws : List ℕ). Holds a (record { words = ws; homes = t.homes; views = slice_set t.views id me.0 })) (sym words)
+          (subst (λ (vs : List View). Holds a (record { words = t.words; homes = t.homes; views = vs })) (sym views) kept),
+      record {
+        is = refl;
+        once = subst (λ (b : About). IsOnce b me.0) (sym is.about)
+            (subst (λ (v : View). IsOnce a v) here (is_once a (board_of a t) id kept.rule unspent));
+      },
+    )
 
 -- Splits and joins, which are the root's.
 root_place : (a : About) (t : State ℕ View) (id : ℕ) (v : View) → Holds a t → IsView a v → v.number ≡ 0 → view_at t.views id ≡ v → id ≡ 0

@@ -59,6 +59,15 @@ impl Play<u8, View> for Asks {
     ghost then = { Asked };
 }
 
+/// A load that leaves the view as it is.
+pub(crate) struct Looks;
+
+impl Play<u8, View> for Looks {
+    ghost use Rattle.candidate_words.specs.Steps.Plays.{Looked};
+
+    ghost then = { Looked };
+}
+
 /// How the root's view is cut in two, and how it takes in another.
 pub(crate) struct Views;
 

@@ -8,7 +8,7 @@ ghost use Rattle.board_core.specs.Rules.{IsOnce, Tells};
 ghost use Rattle.candidate_words.specs.Seats.{Sits, IsRoot, IsOutOf, with_view, HasLoaded, HasDropped, HasFixed, HasAsked};
 
 use crate::Seat;
-use crate::rule::{Asks, BoardRule, Drops, Fixes, Loads, Publishes, Views};
+use crate::rule::{Asks, BoardRule, Drops, Fixes, Loads, Looks, Publishes, Views};
 use atomic_table::{Closed, Table};
 use board_core::{Opened, View, opening_words};
 use cnf_core::{Formula, NoMemory, Values};
@@ -48,6 +48,7 @@ impl Words {
         ensures about { IfOk result (λ opened. opened.0.about ≡ about formula.now phases.now) }
         ensures root { IfOk result (λ opened. opened.1.view ≡ root_view opened.0.about) }
         ensures sits { IfOk result (λ opened. Sits opened.0 opened.1) }
+        ensures once { IfOk result (λ opened. IsOnce opened.0.about opened.1.view) }
     {
         let words = table_words(alloc, formula)?;
         let (table, place) = Table::of_words(alloc, &words, &Opened::of(formula, phases))?;
@@ -141,6 +142,16 @@ impl Words {
         self.table.shared.load::<Asks>(&mut seat.place, word)
     }
 
+    /// One load that is no event and changes nothing: it tells that the seat has dropped and fixed each variable at most
+    /// once, which a join alone does not.
+    pub fn look(&self, seat: &mut Seat)
+        requires seat { Sits self.now seat.old }
+        ensures same { seat.new ≡ seat.old }
+        ensures once { IsOnce self.now.about seat.new.view }
+    {
+        self.table.shared.load::<Looks>(&mut seat.place, 0);
+    }
+
     /// Where the variable's origin word stands: behind the groups.
     fn origin_place(&self, var: u32) -> usize
         requires { (0 < var) × (var ≤ self.now.about.formula.vars) }
@@ -159,6 +170,7 @@ impl Words {
         ensures parent { root.new ≡ with_view root.old (parent root.old.view) }
         ensures child { result ≡ with_view root.old (child root.old.view) }
         ensures sits { Sits self.now root.new × Sits self.now result }
+        ensures once { (IsOnce self.now.about root.old.view → IsOnce self.now.about root.new.view) × IsOnce self.now.about result.view }
     {
         Seat {
             place: self.table.shared.split_seat::<Views>(&mut root.place),

@@ -1,14 +1,17 @@
 -- What a block has: how often each variable, and how many.
-use Rattle.std.proofs.Common.{◌≡◌, ◌≢◌, ℕ, zero, suc, ◌+◌, ◌-◌, ◌/◌, ◌%◌, ◌<◌, ◌≤◌, ◌⊎◌, min, Bool, cond, List, [], ◌∷◌, ◌++◌, length, take, drop, refl, sym, ap, ◌∙◌, subst, inl, inr, ⊎_elim, arith}
-use Rattle.std.specs.Prelude.{slice_index, nat_eq}
+use Rattle.std.proofs.Common.{◌≡◌, ◌≢◌, ℕ, zero, suc, ◌+◌, ◌-◌, ◌*◌, ◌/◌, ◌%◌, ◌<◌, ◌≤◌, ◌⊎◌, min, List, ◌++◌, length, take, drop, refl, sym, ap, ◌∙◌, inl, inr, ⊎_elim, arith}
+use Rattle.std.specs.Prelude.{slice_index}
 use Rattle.std.specs.Int.{bit_at}
-use Rattle.std.proofs.lemmas.Bool.{cases_eq, cases_lt, eq-eqb, ne_eqb}
+use Rattle.std.proofs.lemmas.Bool.{cases_eq, cases_lt}
 use Rattle.std.proofs.lemmas.List.{length-take, take-append-drop, get_or_past}
-use Rattle.std.proofs.lemmas.List.Sums.{sum_by-cons}
 use Rattle.std.proofs.lemmas.Nat.Bits.{bit_at-zero}
 use Rattle.board_core.specs.Words.{alive, open_at, times}
+use Rattle.board_core.specs.Subjects.{About, groups, candidate}
+use Rattle.board_core.specs.Rules.{AreWords}
 use Rattle.board_core.proofs.Bits.{times-append, times_vars_of, times_vars_else, times_vars_zero}
-use Rattle.core_chunks.specs.Chunks.{open_mask, open_in, open_in_groups, open_count, BlocksAreOpen}
+use Rattle.board_core.proofs.Ends.{candidate_past}
+use Rattle.board_core.proofs.Totals.{total, total_length}
+use Rattle.core_chunks.specs.Chunks.{open_mask, open_in, open_in_groups, open_count, AreSeen, BlocksAreOpen}
 use Rattle.core_chunks.proofs.Parts.{open_bit}
 
 -- a variable of a group stands among its open ones where it is open
@@ -79,57 +82,6 @@ times_all ws first (suc c) fits within =
     (cases_lt (c / 32) (length ws)))
     (cases_lt (c / 32) first)
 
--- A list of variables from 1 to n is as long as it has each of them.
-total : List ℕ → ℕ → ℕ
-total xs zero = 0
-total xs (suc n) = total xs n + times (suc n) xs
-
-abbrev mark : Bool → ℕ
-mark b = cond b 1 0
-
-total-nil : (n : ℕ) → total [] n ≡ 0
-unfolding total
-total-nil zero = refl
-total-nil (suc n) = omega (arith, total-nil n)
-
-times_cons_same : (y : ℕ) (ys : List ℕ) → times y (y ∷ ys) ≡ times y ys + 1
-times_cons_same y ys =
-    let e : mark (nat_eq y y) ≡ 1 = ap mark (eq-eqb y y refl) in
-    omega (arith, sum_by-cons (λ (z : ℕ). mark (nat_eq z y)) y ys, e)
-
-times_cons_other : (x y : ℕ) (ys : List ℕ) → y ≢ x → times x (y ∷ ys) ≡ times x ys
-times_cons_other x y ys other =
-    let e : mark (nat_eq y x) ≡ 0 = ap mark (ne_eqb y x other) in
-    omega (arith, sum_by-cons (λ (z : ℕ). mark (nat_eq z x)) y ys, e)
-
-total_below : (y : ℕ) (ys : List ℕ) (n : ℕ) → n < y → total (y ∷ ys) n ≡ total ys n
-unfolding total
-total_below y ys zero below = refl
-total_below y ys (suc n) below =
-    omega (arith, total_below y ys n (omega arith), times_cons_other (suc n) y ys (λ (e : y ≡ suc n). omega arith))
-
-total_cons : (y : ℕ) (ys : List ℕ) (n : ℕ) → 0 < y → y ≤ n → total (y ∷ ys) n ≡ total ys n + 1
-unfolding total
-total_cons y ys zero low high = absurd (omega arith)
-total_cons y ys (suc n) low high =
-    ⊎_elim
-    (λ (same : y ≡ suc n).
-    let last : times (suc n) (y ∷ ys) ≡ times (suc n) ys + 1 =
-    subst (λ (k : ℕ). times k (y ∷ ys) ≡ times k ys + 1) same (times_cons_same y ys) in
-    omega (arith, total_below y ys n (omega arith), last))
-    (λ (other : y ≢ suc n). omega (arith, total_cons y ys n low (omega arith), times_cons_other (suc n) y ys other))
-    (cases_eq y (suc n))
-
-total_length : (xs : List ℕ) (n : ℕ) → times 0 xs ≡ 0 → ((x : ℕ) → n < x → times x xs ≡ 0) → length xs ≡ total xs n
-total_length [] n none past = sym (total-nil n)
-total_length (y ∷ ys) n none past =
-    let low : 0 < y = ⊎_elim (λ (same : y ≡ 0). let one : times 0 (y ∷ ys) ≡ times 0 ys + 1 = subst (λ (k : ℕ). times k (y ∷ ys) ≡ times k ys + 1) same (times_cons_same y ys) in absurd (omega arith))
-    (λ (other : y ≢ 0). omega arith) (cases_eq y 0) in
-    let high : y ≤ n = ⊎_elim (λ (h : n < y). absurd (omega (arith, past y h, times_cons_same y ys))) (λ (h : y ≤ n). h) (cases_lt n y) in
-    let rest : length ys ≡ total ys n = total_length ys n (omega (arith, none, times_cons_other 0 y ys (λ (e : y ≡ 0). omega arith)))
-    (λ x h. omega (arith, past x h, times_cons_other x y ys (λ (e : y ≡ x). omega arith))) in
-    omega (arith, rest, total_cons y ys n low high)
-
 total_open : (ws xs : List ℕ) (n : ℕ) → ((x : ℕ) → times x xs ≡ open_at ws x) → total xs n ≡ open_count ws n
 unfolding total open_count
 total_open ws xs zero same = refl
@@ -139,13 +91,37 @@ times_take : (x size : ℕ) (xs : List ℕ) → times x (take size xs) ≤ times
 times_take x size xs =
     omega (arith, ap (times x) (take-append-drop size xs), times-append x (take size xs) (drop size xs))
 
+-- an open variable is one of the first n
+pub open_within : (ws : List ℕ) (n : ℕ) → AreSeen ws n → (x : ℕ) → 1 ≤ open_at ws x → (0 < x) × (x ≤ n)
+open_within ws n seen zero some = absurd (omega arith)
+open_within ws n seen (suc c) some =
+    ⊎_elim (λ (past : n < suc c). let none = seen.within (suc c) past in absurd (omega arith)) (λ (high : suc c ≤ n). (omega arith, high)) (cases_lt n (suc c))
+
+-- the words that a view has seen or loaded
+pub are_seen : (a : About) (ws : List ℕ) → AreWords a ws → ((g : ℕ) → slice_index ws g < 18446744073709551616) → AreSeen ws a.formula.vars
+are_seen a ws words fits = record { fits = fits; within = past }
+  where
+    past : (x : ℕ) → a.formula.vars < x → open_at ws x ≡ 0
+    past zero high = omega arith
+    past (suc c) high =
+        ⊎_elim
+        (λ (low : c / 32 < groups a.formula.vars).
+        let place : suc (32 * (c / 32) + c % 32) ≡ suc c = omega arith in
+        let bits = (words.inside (c / 32) low (c % 32) (omega arith)).0 in
+        let none : candidate a.formula (suc (32 * (c / 32) + c % 32)) ≡ 0 = ap (candidate a.formula) place ∙ candidate_past a.formula (suc c) high in
+        omega arith)
+        (λ (over : groups a.formula.vars ≤ c / 32). let size = words.size in closed_past ws c (omega arith))
+        (cases_lt (c / 32) (groups a.formula.vars))
+
 pub block_is_open : BlocksAreOpen
 block_is_open ws n first size seen within =
     let fits : (g : ℕ) → slice_index ws g < 18446744073709551616 = seen.fits in
     let each : (x : ℕ) → times x (all_from ws first) ≡ open_at ws x = λ x. times_all ws first x fits within in
     let none : times 0 (all_from ws first) ≡ 0 = each 0 in
+    let inside : (x : ℕ) → 1 ≤ open_at ws x → (0 < x) × (x ≤ n) = open_within ws n seen in
     record {
       once = λ x. omega (arith, times_take x size (all_from ws first), each x);
+      within = λ x some. inside x (omega (arith, times_take x size (all_from ws first), each x));
       count =
           length-take size (all_from ws first)
           ∙ ap (min size) (total_length (all_from ws first) n none (λ x past. each x ∙ seen.within x past) ∙ total_open ws (all_from ws first) n each);

@@ -5,10 +5,10 @@ use Rattle.std.specs.Int.{bit_at}
 use Rattle.std.specs.List.{flat_map, range_with_len}
 use Rattle.std.proofs.lemmas.List.{append-nil, append_assoc, take-append-le, take_all, length-take}
 use Rattle.std.proofs.lemmas.Grind.{flat_map-append}
-use Rattle.std.proofs.lemmas.Nat.Bits.{bit_at_and, bit_at_not, bit_at_ones, bit_at-lt, bit_at-suc, bit_at_lowest, shr_and_one}
+use Rattle.std.proofs.lemmas.Nat.Bits.{bit_at_and, bit_at_not, bit_at_ones, bit_at-lt, shr_and_one}
 use mir.Syntax.{w64}
 use Rattle.board_core.specs.Words.{open_at, var_if, vars_from, vars_of}
-use Rattle.board_core.proofs.Bits.{bit_at_upper}
+use Rattle.board_core.proofs.Bits.{bit_at_upper, vars_from_more}
 use Rattle.core_chunks.specs.Chunks.{open_mask, open_in, open_in_groups, is_open}
 
 pub open_bit : (w i : ℕ) → w < 18446744073709551616 → i < 32 → bit_at (open_mask w) i ≡ bit_at w i - bit_at w (32 + i)
@@ -36,19 +36,6 @@ take_again (suc size) (x ∷ xs) ys = ap (λ (zs : List ℕ). x ∷ zs) (take_ag
 pub take_full : (size : ℕ) (xs ys : List ℕ) → size ≤ length xs → take size (xs ++ ys) ≡ take size xs
 take_full size xs ys full = take-append-le size xs ys full
 
--- one bit more
-pub vars_from_more : (k x mask : ℕ) → vars_from (suc k) x mask ≡ vars_from k x mask ++ var_if (bit_at mask k) (x + k)
-unfolding vars_from
-vars_from_more zero x mask =
-    let here : x ≡ x + 0 = omega arith in
-    append-nil (var_if (mask % 2) x) ∙ ap (λ (b : ℕ). var_if b x) (sym (bit_at_lowest mask)) ∙ ap (λ (y : ℕ). var_if (bit_at mask 0) y) here
-vars_from_more (suc k) x mask =
-    let place : suc x + k ≡ x + suc k = omega arith in
-    ap (λ (ys : List ℕ). var_if (mask % 2) x ++ ys) (vars_from_more k (suc x) (mask / 2))
-    ∙ sym (append_assoc (var_if (mask % 2) x) (vars_from k (suc x) (mask / 2)) (var_if (bit_at (mask / 2) k) (suc x + k)))
-    ∙ ap (λ (b : ℕ). (var_if (mask % 2) x ++ vars_from k (suc x) (mask / 2)) ++ var_if b (suc x + k)) (sym (bit_at-suc mask k))
-    ∙ ap (λ (y : ℕ). (var_if (mask % 2) x ++ vars_from k (suc x) (mask / 2)) ++ var_if (bit_at mask (suc k)) y) place
-
 vars_from_none : (k x : ℕ) → vars_from k x 0 ≡ []
 unfolding vars_from
 vars_from_none zero x = refl
@@ -57,14 +44,6 @@ vars_from_none (suc k) x = vars_from_none k (suc x)
 pub vars_of_none : (g : ℕ) → vars_of g 0 ≡ []
 unfolding vars_of
 vars_of_none g = vars_from_none 32 (suc (32 * g))
-
-pub vars_of_upto : (g mask k : ℕ) → k ≡ 32 → vars_from k (suc (32 * g)) mask ≡ vars_of g mask
-unfolding vars_of
-vars_of_upto g mask k all = ap (λ (n : ℕ). vars_from n (suc (32 * g)) mask) all
-
-pub vars_from_start : (x mask : ℕ) → vars_from 0 x mask ≡ []
-unfolding vars_from
-vars_from_start x mask = refl
 
 -- one bit more of a block that takes at most so many
 pub bit_next : (size g mask k b var : ℕ) (start now next : List ℕ) → bit_at mask k ≡ b → var ≡ 32 * g + k + 1

@@ -40,6 +40,7 @@ pub record AreSeen (ws : List ℕ) (n : ℕ) : Type 0 where
 -- a block has open variables alone, each once, and as many of them as it may, or all
 pub record IsBlockOf (ws : List ℕ) (n size : ℕ) (block : List ℕ) : Type 0 where
   pub once : (x : ℕ) → times x block ≤ open_at ws x
+  pub within : (x : ℕ) → 1 ≤ times x block → (0 < x) × (x ≤ n)
   pub count : length block ≡ min size (open_count ws n)
 
 -- over all words of at most n variables, places and sizes

@@ -1,2 +1,2 @@
 pub mod Stamps
-pub mod Cases
+pub mod Rushes

@@ -1,4 +1,4 @@
-ghost use Rattle.std.specs.Prelude.{◌≡◌, ℕ, ◌+◌, ◌*◌, ◌^◌, ◌<◌, ◌≤◌, suc, [], ◌∷◌, IsTrue, IfOk, OnOk, length, All, Contains, slice_index};
+ghost use Rattle.std.specs.Prelude.{◌≡◌, ℕ, ◌+◌, ◌-◌, ◌*◌, ◌^◌, ◌<◌, ◌≤◌, suc, [], ◌∷◌, IsTrue, IfOk, OnOk, length, All, Contains, slice_index};
 ghost use Rattle.std.specs.Int.{bit_at};
 ghost use Rattle.std.specs.Thread.{IsSync};
 ghost use Rattle.cnf_core.specs.Formulas.{IsModel};
@@ -6,25 +6,18 @@ ghost use Rattle.cnf_core.specs.Literals.{Literal, IsWithin};
 ghost use Rattle.board_core.specs.Subjects.{about, groups, Opposed, Entailed};
 ghost use Rattle.board_core.specs.Boards.{EachOf};
 ghost use Rattle.candidate_words.specs.Seats.{Sits, IsRoot, IsOutOf, HasDropped, HasFixed};
-ghost use Rattle.shared_fixed.specs.Cases.{IsCase, IsOne};
+ghost use Rattle.shared_fixed.specs.Rushes.{IsAfterDrops, IsRushing, IsAfterRush};
+ghost use Rattle.table_cases.specs.Cases.{IsCase};
 
 use crate::{origin, publish};
 use candidate_words::{Seat, Words};
-use cnf_core::{Clause, Formula, Lit, Values};
-use model_check::is_model;
+use cnf_core::{Formula, Values};
 use std::alloc::Global;
 use std::process::Abort;
 use std::test::Fail;
 use std::thread;
 use std::thread::Threads;
-
-/// A formula, a model of it that gives each candidate its phase, and another model.
-#[derive(Drop)]
-struct Case {
-    formula: Formula,
-    phases: Values,
-    other: Values,
-}
+use table_cases::{Case, is_case, may_drop, may_fix};
 
 /// The assignment of so many variables that makes just these true.
 fn values(alloc: Global, vars: u32, trues: &[u32]) -> Result<Values, Fail> {
@@ -49,112 +42,6 @@ fn make_case(
         phases: values(alloc, vars, phases)?,
         other: values(alloc, vars, other)?,
     })
-}
-
-/// Whether the case is one: both assignments are models.
-fn is_case(case: &Case) -> bool
-    ensures { IsTrue result → IsCase case.now.formula case.now.phases case.now.other }
-{
-    let vars = case.formula.vars();
-    0 < vars
-        && case.phases.len() == vars
-        && case.other.len() == vars
-        && is_model(&case.formula, &case.phases)
-        && is_model(&case.formula, &case.other)
-}
-
-/// Whether the variable is shown, and the other model gives it the value opposite to its phase.
-fn is_opposed(case: &Case, var: u32) -> bool
-    requires { IsCase case.now.formula case.now.phases case.now.other }
-    ensures { IsTrue result → IsOne (about case.now.formula case.now.phases) (Opposed (about case.now.formula case.now.phases)) var }
-{
-    if !case.formula.is_shown(var) || var == 0 || case.formula.vars() < var {
-        return false;
-    }
-    case.phases.get(var) != case.other.get(var)
-}
-
-/// Whether the clause has just this literal.
-fn is_unit(clause: &Clause, lit: Lit) -> bool
-    ensures { IsTrue result → clause.now ≡ lit ∷ [] }
-{
-    let lits = clause.as_slice();
-    lits.len() == 1 && lits[0] == lit
-}
-
-/// Whether the formula has a clause of just the literal.
-fn has_unit(formula: &Formula, lit: Lit) -> bool
-    ensures { IsTrue result → Contains formula.now.clauses (lit ∷ []) }
-{
-    for clause in formula.clauses() {
-        if is_unit(clause, lit) {
-            return true;
-        }
-    }
-    false
-}
-
-/// Whether the variable is shown, and its phase literal is a clause.
-fn is_given(case: &Case, var: u32) -> bool
-    requires { IsCase case.now.formula case.now.phases case.now.other }
-    ensures { IsTrue result → IsOne (about case.now.formula case.now.phases) (Entailed (about case.now.formula case.now.phases)) var }
-{
-    if !case.formula.is_shown(var) || var == 0 || case.formula.vars() < var {
-        return false;
-    }
-    has_unit(&case.formula, Lit::new(var, case.phases.get(var)))
-}
-
-/// Whether a bit of the mask is off, or its variable may be dropped.
-fn is_droppable(case: &Case, group: u32, mask: u32, bit: u32) -> bool
-    requires case { IsCase case.now.formula case.now.phases case.now.other }
-    requires bit { (group < 2 ^ 20) × (bit < 32) }
-    ensures { IsTrue result → bit_at mask bit ≡ 1 → IsOne (about case.now.formula case.now.phases) (Opposed (about case.now.formula case.now.phases)) (suc (32 * group + bit)) }
-{
-    (mask >> bit) & 1 == 0 || is_opposed(case, 32 * group + bit + 1)
-}
-
-/// Whether a bit of the mask is off, or its variable may be fixed.
-fn is_fixable(case: &Case, group: u32, mask: u32, bit: u32) -> bool
-    requires case { IsCase case.now.formula case.now.phases case.now.other }
-    requires bit { (group < 2 ^ 20) × (bit < 32) }
-    ensures { IsTrue result → bit_at mask bit ≡ 1 → IsOne (about case.now.formula case.now.phases) (Entailed (about case.now.formula case.now.phases)) (suc (32 * group + bit)) }
-{
-    (mask >> bit) & 1 == 0 || is_given(case, 32 * group + bit + 1)
-}
-
-/// Whether all variables of the mask may be dropped.
-fn may_drop(case: &Case, group: u32, mask: u32) -> bool
-    requires { IsCase case.now.formula case.now.phases case.now.other }
-    ensures { IsTrue result → (group < groups case.now.formula.vars)
-        × EachOf (about case.now.formula case.now.phases) (Opposed (about case.now.formula case.now.phases)) group mask }
-{
-    if group >= case.formula.vars().div_ceil(32) {
-        return false;
-    }
-    for bit in 0..32 {
-        if !is_droppable(case, group, mask, bit) {
-            return false;
-        }
-    }
-    true
-}
-
-/// Whether all variables of the mask may be fixed.
-fn may_fix(case: &Case, group: u32, mask: u32) -> bool
-    requires { IsCase case.now.formula case.now.phases case.now.other }
-    ensures { IsTrue result → (group < groups case.now.formula.vars)
-        × EachOf (about case.now.formula case.now.phases) (Entailed (about case.now.formula case.now.phases)) group mask }
-{
-    if group >= case.formula.vars().div_ceil(32) {
-        return false;
-    }
-    for bit in 0..32 {
-        if !is_fixable(case, group, mask, bit) {
-            return false;
-        }
-    }
-    true
 }
 
 /// Drops after a look whether the case allows it.
@@ -302,85 +189,56 @@ fn an_origin_is_told_after_its_publish(rt: HostRuntime) -> Result<(), Fail> {
     Ok(())
 }
 
-/// What a thread won: the sum of its answers, and all their bits.
-#[derive(Clone, Copy)]
-struct Won {
-    sum: u64,
-    bits: u32,
-}
-
-/// A seat, and which mask its thread drops first.
-#[derive(Drop)]
-struct Turn {
-    seat: Seat,
-    first: usize,
-}
-
-/// Drops the masks of group 0 from one on to the last.
-fn drop_from(words: &Words, seat: &mut Seat, masks: &[u32], won: &mut Won)
+/// Drops the masks of group 0.
+fn drop_all(words: &Words, seat: &mut Seat, masks: &[u32])
     requires seat { Sits words.now seat.old }
     requires group { 0 < groups words.now.about.formula.vars }
     requires masks { All (EachOf words.now.about (Opposed words.now.about) 0) masks.now }
-    ensures { Sits words.now seat.new }
+    ensures { IsAfterDrops words.now seat.old seat.new }
 {
     for mask in masks {
-        let answer = words.drop_bits(seat, 0, *mask);
-        won.sum = won.sum.wrapping_add(u64::from(answer));
-        won.bits |= answer;
+        words.drop_bits(seat, 0, *mask);
     }
 }
 
-/// Drops all the masks of group 0, first those from one on.
-fn drop_in_turn(words: &Words, turn: Turn, masks: &[u32]) -> Won
-    requires seat { Sits words.now turn.seat }
+/// Drops the masks of group 0, and gives the seat back.
+fn dropped(words: &Words, mut seat: Seat, masks: &[u32]) -> Seat
+    requires seat { Sits words.now seat }
     requires group { 0 < groups words.now.about.formula.vars }
     requires masks { All (EachOf words.now.about (Opposed words.now.about) 0) masks.now }
+    ensures { IsAfterDrops words.now seat result }
 {
-    let Turn { mut seat, first } = turn;
-    let mut won = Won { sum: 0, bits: 0 };
-    if first < masks.len() {
-        drop_from(words, &mut seat, &masks[first..], &mut won);
-    }
-    drop_from(words, &mut seat, masks, &mut won);
-    won
+    drop_all(words, &mut seat, masks);
+    seat
 }
 
-/// Seats for so many threads, at most 16.
-fn turns(alloc: Global, words: &Words, root: &mut Seat, count: usize) -> Result<Vec<Turn>, Fail>
-    requires root { Sits words.now root.old × IsRoot root.old × (root.old.view.next ≡ 1) }
-    requires count { count ≤ 16 }
-    ensures { IfOk result (λ turns. All (λ turn. Sits words.now turn.seat) turns.items) }
-{
-    let mut turns = Vec::new(alloc);
-    for first in 0..count {
-        turns.push(Turn {
-            seat: words.split(root),
-            first,
-        })?;
-    }
-    Ok(turns)
-}
-
-/// Each of sixteen threads drops the masks in an order of its own.
-fn rush<R: Threads + Sync>(
-    rt: &R,
-    words: &Words,
-    turns: Vec<Turn>,
-    masks: &[u32],
-) -> Result<Vec<Won>, Fail>
-    requires turns { All (λ turn. Sits words.now turn.seat) turns.items }
+/// So many seats drop the masks at the same time, each in a thread of its own, and the root takes them all in.
+fn rush<R: Threads + Sync>(rt: &R, words: &Words, root: Seat, count: u32, masks: &[u32]) -> Seat
+    requires root { IsRushing words.now root count }
     requires group { 0 < groups words.now.about.formula.vars }
     requires masks { All (EachOf words.now.about (Opposed words.now.about) 0) masks.now }
+    ensures { IsAfterRush words.now root result }
 {
-    let won = thread::map_vec(
+    if count == 0 {
+        return root;
+    }
+    let mut root = root;
+    let seat = words.split(&mut root);
+    let (mut root, seat) = thread::join(
         rt,
-        turns,
-        &|turn: Turn| -> Won
-            requires { Sits words.now turn.seat × (0 < groups words.now.about.formula.vars)
+        move || -> Seat
+            requires { IsSync R.row × (0 < count) × IsRushing words.now root (count - 1) × (0 < groups words.now.about.formula.vars)
                 × All (EachOf words.now.about (Opposed words.now.about) 0) masks.now }
-        { drop_in_turn(words, turn, masks) },
-    )?;
-    Ok(won)
+            ensures { IsAfterRush words.entry.now root result }
+        { rush(rt, words, root, count - 1, masks) },
+        move || -> Seat
+            requires { Sits words.now seat × (0 < groups words.now.about.formula.vars)
+                × All (EachOf words.now.about (Opposed words.now.about) 0) masks.now }
+            ensures { IsAfterDrops words.entry.now seat result }
+        { dropped(words, seat, masks) },
+    );
+    words.join(&mut root, seat);
+    root
 }
 
 /// Whether all the masks of group 0 may be dropped.
@@ -417,21 +275,16 @@ const MASKS: [u32; 16] = [
 ];
 
 #[test]
-fn sixteen_threads_win_each_bit_once(rt: HostRuntime) -> Result<(), Fail> {
+fn the_root_has_what_sixteen_threads_dropped(rt: HostRuntime) -> Result<(), Fail> {
     for _ in 0..8 {
         let case = make_case(rt.alloc(), 33, &[33, 0], &[33], &EVERY)?;
         assert!(rt; is_case(&case));
         let allowed = may_drop_all(&case, &MASKS);
         assert!(rt; allowed);
-        let (words, mut root) = Words::open(rt.alloc(), &case.formula, &case.phases)?;
-        let seats = turns(rt.alloc(), &words, &mut root, 16)?;
-        let mut sum = 0u64;
-        let mut bits = 0;
-        for won in &rush(&rt, &words, seats, &MASKS)? {
-            sum = sum.wrapping_add(won.sum);
-            bits |= won.bits;
-        }
-        assert_eq!(rt; (sum, bits), (0xffff_ffff, 0xffff_ffff));
+        let (words, root) = Words::open(rt.alloc(), &case.formula, &case.phases)?;
+        let root = rush(&rt, &words, root, 16, &MASKS);
+        let closed = words.close(rt.alloc(), root)?;
+        assert_eq!(rt; closed.as_slice(), [0, 1].as_slice());
     }
     Ok(())
 }

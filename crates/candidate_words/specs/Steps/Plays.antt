@@ -52,3 +52,7 @@ pub record Published (st : Step ℕ) (me : Me ℕ View) (n : ℕ) (after : Me �
 pub record Asked (st : Step ℕ) (me : Me ℕ View) (n : ℕ) (after : Me ℕ View) : Type 0 where
   pub tells : TellsOrigin me.0.about (var_of st me) n
   pub becomes : Becomes me after (origin_view (var_of st me) n me.0)
+
+pub record Looked (st : Step ℕ) (me : Me ℕ View) (n : ℕ) (after : Me ℕ View) : Type 0 where
+  pub is : after ≡ me
+  pub once : IsOnce me.0.about me.0

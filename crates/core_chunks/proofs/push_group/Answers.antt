@@ -1,6 +1,7 @@
 use Rattle.std.proofs.Common.{◌*◌, ℕ, suc, List, take, ◌++◌, refl, ap, sym, ◌∙◌, arith}
 use Rattle.std.proofs.lemmas.Nat.Bits.{shr_and_one}
-use Rattle.core_chunks.proofs.Parts.{take_none, vars_from_start, vars_of_upto, bit_next, group_none}
+use Rattle.board_core.proofs.Bits.{vars_from_start, vars_of_upto}
+use Rattle.core_chunks.proofs.Parts.{take_none, bit_next, group_none}
 use Rattle.core_chunks.proofs.push_group.Goals as goal
 
 pub loop-bit-init : goal.loop-bit-init

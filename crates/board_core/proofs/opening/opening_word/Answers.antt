@@ -1,7 +1,5 @@
-use Rattle.std.proofs.Common.{◌≡◌, ◌+◌, ◌-◌, ◌*◌, refl, ap, ◌∙◌, arith}
-use Rattle.cnf_core.specs.Formulas.{is_shown}
-use Rattle.board_core.specs.Subjects.{flag}
-use Rattle.board_core.proofs.Ends.{flag-lt, byte_flag, word_fits, word_more, word_begins, word_whole}
+use Rattle.std.proofs.Common.{◌+◌, ◌-◌, ◌*◌, refl, arith}
+use Rattle.board_core.proofs.Ends.{candidate-lt, word_fits, word_more, word_begins, word_whole}
 use Rattle.board_core.proofs.opening.opening_word.Goals as goal
 
 pub loop-done-init : goal.loop-done-init
@@ -12,19 +10,16 @@ overflow_mul-word c =
     let small = word_fits c.args.formula.now (32 * c.args.group + 32 + 1 - c.loop-done.done) c.loop-done.done c.loop-done.word c.loop-done.invariant.0
     (omega arith) in omega arith
 
-bit_is : (c : goal.After-from) → c.from.result ≡ flag (is_shown c.args.formula.now (32 * c.args.group + 32 - c.loop-done.done))
-bit_is c = c.from.ensures ∙ byte_flag c.is_shown.result ∙ ap flag c.is_shown.ensures
-
 pub overflow_add-word : goal.overflow_add-word
 overflow_add-word c =
     let small = word_fits c.args.formula.now (32 * c.args.group + 32 + 1 - c.loop-done.done) c.loop-done.done c.loop-done.word c.loop-done.invariant.0
     (omega arith) in
-    omega (arith, bit_is c, flag-lt (is_shown c.args.formula.now (32 * c.args.group + 32 - c.loop-done.done)))
+    omega (arith, c.candidate_bit.ensures, candidate-lt c.args.formula.now (32 * c.args.group + 32 - c.loop-done.done))
 
 pub loop-done-preserved : goal.loop-done-preserved
 loop-done-preserved c = (
-  word_more c.args.formula.now (32 * c.args.group + 32) c.loop-done.done c.loop-done.word c.from.result c.loop-done.invariant.0
-      (omega arith) (bit_is c),
+  word_more c.args.formula.now (32 * c.args.group + 32) c.loop-done.done c.loop-done.word c.candidate_bit.result c.loop-done.invariant.0
+      (omega arith) c.candidate_bit.ensures,
   refl,
 )
 

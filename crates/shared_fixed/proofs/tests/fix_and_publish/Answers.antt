@@ -1,4 +1,4 @@
-use Rattle.shared_fixed.proofs.Cases.{publish_ready}
+use Rattle.shared_fixed.proofs.Turns.{publish_ready}
 use Rattle.shared_fixed.proofs.tests.fix_and_publish.Goals as goal
 
 pub publish-requires-clause-publishes : goal.publish-requires-clause-publishes

@@ -1,8 +1,8 @@
 use Rattle.std.proofs.Common.{◌≡◌, ◌++◌, ℕ, ◌+◌, ap, sym, replicate, ◌∙◌, subst, arith}
 use Rattle.board_core.specs.Subjects.{About, groups}
 use Rattle.board_core.specs.Boards.{opening_words}
-use Rattle.board_core.specs.Rules.{IsView}
-use Rattle.board_core.proofs.Views.{view_root}
+use Rattle.board_core.specs.Rules.{IsView, IsOnce}
+use Rattle.board_core.proofs.Views.{view_root, once_root}
 use Rattle.board_core.specs.declared.view.View.{View}
 use Rattle.atomic_table.specs.Table.{Me}
 use Rattle.candidate_words.proofs.Moves.{opens_table}
@@ -35,3 +35,9 @@ returns-clause-sits c =
       view = subst (λ (a : About). IsView a c.in_ok-table.place.me.0) (sym h.5)
           (subst (λ (v : View). IsView c.of.result v) (sym (ap (λ (m : Me ℕ View). m.0) h.4)) (view_root c.of.result));
     }
+
+pub returns-clause-once : goal.returns-clause-once
+returns-clause-once c =
+    let h = c.in_ok-table.ensures in
+    subst (λ (a : About). IsOnce a c.in_ok-table.place.me.0) (sym h.5)
+    (subst (λ (v : View). IsOnce c.of.result v) (sym (ap (λ (m : Me ℕ View). m.0) h.4)) (once_root c.of.result))
