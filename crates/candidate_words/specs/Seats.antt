@@ -50,6 +50,11 @@ pub record HasDropped (s : Sitter) (g mask answer : ℕ) (t : Sitter) : Type 0 w
   pub answer_is : answer ≡ cleared found mask
   pub seat : t ≡ with_view s (drop_view g mask found s.view)
 
+-- it was the event Drop of no variable, which found the answer
+pub record HasRefreshed (s : Sitter) (g answer : ℕ) (t : Sitter) : Type 0 where
+  pub finds : Finds s g answer
+  pub seat : t ≡ with_view s (drop_view g 0 answer s.view)
+
 -- it was the event Fix, and the answer has just the bits that it set, none of them of an imported variable
 pub record HasFixed (s : Sitter) (g mask answer : ℕ) (t : Sitter) : Type 0 where
   pub found : ℕ

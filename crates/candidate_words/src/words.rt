@@ -5,7 +5,7 @@ ghost use Rattle.cnf_core.specs.Formulas.{IsModel};
 ghost use Rattle.board_core.specs.Subjects.{about, groups, Opposed, Entailed};
 ghost use Rattle.board_core.specs.Boards.{opening_words, root_view, parent, child, joined, EachOf, MayPublish, publish_view};
 ghost use Rattle.board_core.specs.Rules.{IsOnce, Tells};
-ghost use Rattle.candidate_words.specs.Seats.{Sits, IsRoot, IsOutOf, with_view, HasLoaded, HasDropped, HasFixed, HasAsked};
+ghost use Rattle.candidate_words.specs.Seats.{Sits, IsRoot, IsOutOf, with_view, HasLoaded, HasDropped, HasRefreshed, HasFixed, HasAsked};
 
 use crate::Seat;
 use crate::rule::{Asks, BoardRule, Drops, Fixes, Loads, Looks, Publishes, Views};
@@ -90,6 +90,20 @@ impl Words {
             .shared
             .fetch_and::<Drops>(&mut seat.place, group as usize, !all);
         (found & all) as u32
+    }
+
+    /// The group's word, which is seen but doesn't count as loaded: one fetch-and of all bits, and the event Drop of no
+    /// variable.
+    pub fn refresh(&self, seat: &mut Seat, group: u32) -> u64
+        requires seat { Sits self.now seat.old }
+        requires group { group < groups self.now.about.formula.vars }
+        ensures refreshed { HasRefreshed seat.old group result seat.new }
+        ensures sits { Sits self.now seat.new }
+        ensures once { IsOnce self.now.about seat.new.view }
+    {
+        self.table
+            .shared
+            .fetch_and::<Drops>(&mut seat.place, group as usize, u64::MAX)
     }
 
     /// Fixes the mask's variables: one fetch-or, and the event Fix. Each is shown, and the formula entails its

@@ -87,8 +87,18 @@ pub fn block(alloc: Global, seen: &[u64], from: u32, size: u32) -> Result<Vec<u3
     Ok(block)
 }
 
+/// Adds the open variables of the words in rising order, as far as there is room for so many in the list. There are at
+/// most 2^15 words.
+pub fn push_open(list: &mut Vec<u32>, seen: &[u64], size: usize) -> Result<(), NoMemory>
+    requires room { vec_len list.old ≤ size }
+    requires seen { length seen.now ≤ 2 ^ 15 }
+    ensures { OnOk result (list.new.items ≡ take size (list.old.items ++ open_in_groups seen.now 0 (length seen.now))) }
+{
+    push_groups(list, seen, 0, seen.len() as u32, size)
+}
+
 /// Whether the variable, from 1 on, is open in the words.
-fn is_open(seen: &[u64], var: u32) -> bool
+pub fn is_open(seen: &[u64], var: u32) -> bool
     requires { 0 < var }
     ensures { result ≡ is_open seen.now var }
 {
