@@ -1,7 +1,7 @@
 //! Which candidates a query asks about: blocks of open variables, and the part of a core that is still open.
 #![tactic(auto)]
 
-ghost use Rattle.std.specs.Prelude.{◌≡◌, ℕ, ◌+◌, ◌-◌, ◌*◌, ◌^◌, ◌<◌, ◌≤◌, ◌++◌, ◌∷◌, [], length, take, slice_index, IfOk, OnOk};
+ghost use Rattle.std.specs.Prelude.{◌≡◌, ◌+◌, ◌-◌, ◌*◌, ◌^◌, ◌<◌, ◌≤◌, ◌++◌, ◌∷◌, [], length, take, slice_index, IfOk, OnOk};
 ghost use Rattle.std.specs.Vec.{vec_len};
 ghost use Rattle.board_core.specs.Words.{var_if, vars_of};
 ghost use Rattle.core_chunks.specs.Chunks.{open_mask, open_in_groups, block_of, is_open, chunk_of};
@@ -72,29 +72,21 @@ fn push_groups(
     Ok(())
 }
 
-/// The first open variables of the words, at most `size`, which is from 1 to 256: in rising order within a group, with
-/// the groups taken from `from` to the last and then from 0. There are at most 2^15 words.
+/// Room for so many variables is made at once.
+const SHORT: usize = 256;
+
+/// The first open variables of the words, at most `size` of them: in rising order within a group, with the groups taken
+/// from `from` to the last and then from 0. There are at most 2^15 words.
 pub fn block(alloc: Global, seen: &[u64], from: u32, size: u32) -> Result<Vec<u32>, NoMemory>
     requires seen { length seen.now ≤ 2 ^ 15 }
     requires from { from < length seen.now }
-    requires size { (1 ≤ size) × (size ≤ 256) }
     ensures { IfOk result (λ block. block.items ≡ block_of seen.now from size) }
 {
     let size = size as usize;
-    let mut block = Vec::with_capacity(alloc, size)?;
+    let mut block = Vec::with_capacity(alloc, size.min(SHORT))?;
     push_groups(&mut block, seen, from, seen.len() as u32, size)?;
     push_groups(&mut block, seen, 0, from, size)?;
     Ok(block)
-}
-
-/// Adds the open variables of the words in rising order, as far as there is room for so many in the list. There are at
-/// most 2^15 words.
-pub fn push_open(list: &mut Vec<u32>, seen: &[u64], size: usize) -> Result<(), NoMemory>
-    requires room { vec_len list.old ≤ size }
-    requires seen { length seen.now ≤ 2 ^ 15 }
-    ensures { OnOk result (list.new.items ≡ take size (list.old.items ++ open_in_groups seen.now 0 (length seen.now))) }
-{
-    push_groups(list, seen, 0, seen.len() as u32, size)
 }
 
 /// Whether the variable, from 1 on, is open in the words.
