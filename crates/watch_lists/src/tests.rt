@@ -187,8 +187,7 @@ fn a_chain_is_propagated_and_a_removed_clause_no_more(rt: HostRuntime) -> Result
     let moves = arena.compact()?;
     assert_eq!(rt; shared(&moves).to(second), None);
     assert_eq!(rt; moves.to(first), Some(ClauseRef::at(0)));
-    watches.rebuild(&arena)?;
-    trail.set_gone(0);
+    watches.follow(&moves);
     let step = decide(&rt, &mut watches, &mut arena, &mut trail, 1)?;
     assert_eq!(rt; step, Step::Quiet);
     assert_eq!(rt;
