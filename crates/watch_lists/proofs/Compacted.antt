@@ -4,7 +4,7 @@
 -- goes_down                                        what `Watches::follow` asks
 -- ready_compacted                                  after `Watches::follow`
 use Rattle.std.proofs.Common.{◌≡◌, ◌≢◌, ℕ, zero, suc, ◌+◌, ◌<◌, ◌≤◌, ◌⊎◌, Bool, cond, true, false, Option, Some, None, List, [], ◌∷◌, ◌++◌, length, get_or}
-use Rattle.std.proofs.Common.{take, drop, map, filter, filter_map, count_by, Contains, refl, sym, ap, ◌∙◌, subst, inl, inr, ⊎_elim, not, arith, append-nil, length-append, length-take}
+use Rattle.std.proofs.Common.{take, drop, map, count_by, Contains, refl, sym, ap, ◌∙◌, subst, inl, inr, ⊎_elim, not, arith, append-nil, length-append, length-take}
 use Rattle.std.specs.List.{cons_option}
 use Rattle.std.proofs.lemmas.List.{length-set, get_or-set_same, get_or-set_other, get_or-map, length-map, get_or_past, get_or_default}
 use Rattle.std.proofs.lemmas.List.{get_or_append_left, get_or_push, length_push, take_all, take-append-drop}
@@ -37,16 +37,20 @@ cleared_trans a b c f g = record {
   same = λ r live. g.same r live ∙ f.same r (ap (λ (e : Entry). e.live) (sym (g.same r live)) ∙ live);
 }
 
-pub cleared_removed : (a b : Entries) (d : ℕ) → d < length a → b ≡ without_clause a d → IsCleared a b
-cleared_removed a b d here is =
+pub cleared_removed : (a b : Entries) (d : ℕ) → b ≡ without_clause a d → IsCleared a b
+cleared_removed a b d is =
     let x : Entry = record (entry_at a d) { live = false } in
+    let size : length (without_clause a d) ≡ length a = length-set a d x in
+    let dead : (r : ℕ) → r ≡ d → (entry_at (without_clause a d) r).live ≡ false = λ r at. ⊎_elim
+    (λ (here : d < length a).
+    ap (λ (k : ℕ). (entry_at (without_clause a d) k).live) at ∙ ap (λ (e : Entry). e.live) (get_or-set_same a d x no_entry here))
+    (λ (past : length a ≤ d).
+    ap (λ (e : Entry). e.live) (get_or_past (without_clause a d) r no_entry (omega (arith, size))))
+    (cases_lt d (length a)) in
     subst (IsCleared a) (sym is) (record {
-      count = length-set a d x;
+      count = size;
       same = λ r live. ⊎_elim
-          (λ (at : r ≡ d).
-          let dead : (entry_at (without_clause a d) r).live ≡ false =
-          ap (λ (k : ℕ). (entry_at (without_clause a d) k).live) at ∙ ap (λ (e : Entry). e.live) (get_or-set_same a d x no_entry here) in
-          absurd (false≢true (sym dead ∙ live)))
+          (λ (at : r ≡ d). absurd (false≢true (sym (dead r at) ∙ live)))
           (λ (other : r ≢ d). get_or-set_other a d r x no_entry other)
           (cases_eq r d);
     })

@@ -1,11 +1,11 @@
 -- The watches follow a compaction of the arena.
-use Rattle.std.proofs.Common.{◌≡◌, ◌≢◌, ℕ, zero, suc, ◌+◌, ◌-◌, ◌<◌, ◌≤◌, ◌⊎◌, true, Option, Some, None, List, [], ◌∷◌, ◌++◌, length, get_or, set, take, map}
-use Rattle.std.proofs.Common.{filter_map, Contains, Vec, refl, sym, ap, ◌∙◌, subst, ⊎_elim, arith, append-nil}
+use Rattle.std.proofs.Common.{◌≡◌, ◌≢◌, ℕ, ◌+◌, ◌<◌, ◌≤◌, Option, Some, None, List, [], ◌∷◌, ◌++◌, length, get_or, set, take, map}
+use Rattle.std.proofs.Common.{Vec, refl, sym, ap, ◌∙◌, ⊎_elim, arith, append-nil}
 use Rattle.std.specs.List.{cons_option}
-use Rattle.std.proofs.lemmas.List.{length-set, get_or-set_same, get_or-set_other, get_or-map, length-map, map-set, get_or_past, get_or_read, take_all}
-use Rattle.std.proofs.lemmas.List.{take_more, take_more_set, length-take-le, ext_get_or}
+use Rattle.std.proofs.lemmas.List.{length-set, get_or-set_same, get_or-set_other, get_or-map, length-map, map-set, get_or_read, take_all}
+use Rattle.std.proofs.lemmas.List.{take_more, take_more_set, ext_get_or}
 use Rattle.std.proofs.lemmas.List.Elements.{filter_map-append}
-use Rattle.std.proofs.lemmas.Bool.{cases_eq, cases_lt}
+use Rattle.std.proofs.lemmas.Bool.{cases_eq}
 use Rattle.watch_lists.specs.Watchers.{Watcher}
 use Rattle.watch_lists.specs.Lists.{no_watch}
 use Rattle.watch_lists.specs.Moving.{moved_watch, moved_list}

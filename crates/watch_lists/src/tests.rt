@@ -3,6 +3,7 @@ ghost use Rattle.cnf_core.specs.Literals.{IsWithin};
 ghost use Rattle.clause_arena.specs.Entries.{IsLive};
 ghost use Rattle.trail_core.specs.Trails.{IsFree};
 ghost use Rattle.watch_lists.specs.Clauses.{AreClean};
+ghost use Rattle.watch_lists.specs.Steps.Compacting.{IsCleared};
 ghost use Rattle.watch_lists.specs.Watching.{IsReady};
 
 use crate::{Step, Watches};
@@ -88,7 +89,8 @@ fn is_live(arena: &Arena, r: ClauseRef) -> bool
 /// Removes a live clause.
 fn remove(rt: &impl Abort, arena: &mut Arena, vars: u32, r: ClauseRef)
     requires { AreClean vars arena.old }
-    ensures { AreClean vars arena.new }
+    ensures clean { AreClean vars arena.new }
+    ensures cleared { IsCleared arena.old arena.new }
 {
     assert!(rt; is_live(arena, r));
     arena.remove(r);
