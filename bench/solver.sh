@@ -7,7 +7,8 @@
 #   [YARDSTICK='COMMAND WORD ..'] bench/solver.sh [FILE ..]
 #
 # It runs the program of crates/solver_bench as its last proof built it. The milliseconds are those of the processor,
-# the least of three runs: of the proved solver and of MiniSat those of the whole programs, of the yardstick its own.
+# the least of three runs: of the yardstick its own, of MiniSat those of the whole program, and of the proved solver
+# those of the whole program less those of one that only reads the formula and makes the solver.
 # A line has, for each solver, its conflicts, its milliseconds and the microseconds a conflict. The last lines have the
 # ratios of the proved solver to the yardstick, as geometric means.
 set -eu
@@ -41,9 +42,10 @@ least() {
 
 # 'CONFLICTS MILLISECONDS' of each solver on the file.
 proved() {
-    local taken
+    local taken loading
+    loading=$(least "$1" "$program" load)
     taken=$(least "$1" "$program" read "$budget")
-    echo "$(awk '/ conflicts$/ { print $1 }' "$work/answer") $taken"
+    echo "$(awk '/ conflicts$/ { print $1 }' "$work/answer") $((taken > loading ? taken - loading : 1))"
 }
 yardstick() {
     local least=none taken

@@ -1,8 +1,8 @@
 -- An arena from which learnt clauses were removed.
 --
 -- thinned_removed, thinned_compacted, thinned_trans, thinned_same     how it comes about
--- thinned_long, thinned_clean         its clauses
--- solving_thinned                     what a search at the root keeps, watched anew, in a new epoch
+-- thinned_long        its clauses
+-- solving_thinned     what a search at the root keeps, where the rest stays watched, in a new epoch
 use Rattle.std.proofs.Common.{◌≡◌, ◌≢◌, ◌⊎◌, ℕ, ◌<◌, ◌≤◌, true, false, List, [], length, get_or, set, drop, Contains, sym, ap, ◌∙◌, subst, inl, inr, ⊎_elim, arith}
 use Rattle.std.proofs.lemmas.Bool.{cases_eq, false≢true}
 use Rattle.std.proofs.lemmas.List.{length-set, get_or-set_same, get_or-set_other, drop_all}
@@ -14,9 +14,8 @@ use Rattle.clause_arena.specs.Entries.{Entry, Entries, no_entry, entry_at, is_li
 use Rattle.trail_core.specs.declared.entry.Assigned.{Assigned}
 use Rattle.trail_core.specs.declared.entry.Reason.TheVariants.{Clause as ByClause, Unit as ByUnit}
 use Rattle.trail_core.specs.Trails.{TrailState, IsTrail}
-use Rattle.watch_lists.specs.Clauses.{IsClean, AreClean}
-use Rattle.watch_lists.specs.Lists.{WatchLists, IsAttached}
-use Rattle.watch_lists.proofs.Kept.{ready_attached}
+use Rattle.watch_lists.specs.Lists.{WatchLists}
+use Rattle.watch_lists.specs.Watching.{IsReady}
 use Rattle.conflict_analysis.specs.Reasons.{IsReasoned}
 use Rattle.conflict_analysis.proofs.Walking.{level_le}
 use Rattle.lrat_log.specs.Entries.{Recorded}
@@ -85,15 +84,6 @@ thinned_long a b h long r live =
       long = subst (λ (x : Entry). 2 ≤ length x.lits) p.is (long p.place p.live).long;
     }
 
-pub thinned_clean : (n : ℕ) (a b : Entries) → IsThinned a b → AreClean n a → AreClean n b
-thinned_clean n a b h clean r long =
-    let e = entry_at b r in
-    let p = place_of_entry a e (h.from e (entry_of_place b r long.live) long.live.live) long.live.live in
-    subst (λ (x : Entry). IsClean n x.lits) p.is (clean p.place (record {
-      live = p.live;
-      long = subst (λ (x : Entry). 2 ≤ length x.lits) (sym p.is) long.long;
-    }))
-
 -- ---- a search at the root, whose reasons are units
 
 reasoned_units : (a b : Entries) (t : TrailState) → IsReasoned a t.entries → IsTrail t → t.level ≡ 0 → HaveUnits t.entries
@@ -125,22 +115,19 @@ inputs_thinned a b es ds h keeps d member =
     s)
     (keeps d member)
 
-pub solving_thinned : (n m s : ℕ) (a b : Entries) (w v : WatchLists) (t u : TrailState) (L : Recorded) (epochs : EpochState)
-    → IsSolving n s a w t L epochs → IsTrail t → t.level ≡ 0 → HaveUnits t.entries → IsThinned a b → IsAttached b v → v.vars ≡ w.vars
-    → length (learnt_in L.entries L.query) ≤ epoch_start epochs.epoch → m ≡ n → u ≡ record t { gone = 0 }
-    → IsSolving m s b v u L epochs
-solving_thinned n m s a b w v t u L epochs h trail root units thin attached vars over same is =
+pub solving_thinned : (n m s : ℕ) (a b : Entries) (w v : WatchLists) (t : TrailState) (L : Recorded) (epochs : EpochState)
+    → IsSolving n s a w t L epochs → IsTrail t → t.level ≡ 0 → HaveUnits t.entries → IsThinned a b → IsReady b v t
+    → length (learnt_in L.entries L.query) ≤ epoch_start epochs.epoch → m ≡ n → IsSolving m s b v t L epochs
+solving_thinned n m s a b w v t L epochs h trail root units thin ready over same =
     let bears = h.bears in
     let old = bears.searching in
-    let new = record t { gone = 0 } in
     let none : drop (epoch_start epochs.epoch) (learnt_in L.entries L.query) ≡ [] =
     drop_all (epoch_start epochs.epoch) (learnt_in L.entries L.query) over in
-    subst (λ (y : TrailState). IsSolving m s b v y L epochs) (sym is)
-    (subst (λ (k : ℕ). IsSolving k s b v new L epochs) (sym same) (record {
+    subst (λ (k : ℕ). IsSolving k s b v t L epochs) (sym same) (record {
       bears = record {
         searching = record {
           vars = old.vars;
-          ready = ready_attached b v t attached (vars ∙ old.ready.vars) trail root;
+          ready = ready;
           reasoned = reasoned_units a b t old.reasoned trail root units;
           all_long = thinned_long a b thin old.all_long;
           units = λ above. absurd (omega (arith, above, root));
@@ -155,4 +142,4 @@ solving_thinned n m s a b w v t u L epochs h trail root units thin attached vars
           absurd (omega (arith, no.1));
       counted = h.counted;
       in_epoch = h.in_epoch;
-    }))
+    })

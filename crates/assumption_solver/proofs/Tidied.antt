@@ -1,10 +1,13 @@
 -- A search that went back to the root and let clauses go.
-use Rattle.std.proofs.Common.{◌≡◌, ◌≤◌, length, refl, sym, ap, ◌∙◌, subst, arith}
+use Rattle.std.proofs.Common.{◌≡◌, ℕ, ◌≤◌, Option, List, length, refl, ap, ◌∙◌, arith}
 use Rattle.cnf_core.specs.Literals.{Literals}
 use Rattle.cnf_core.specs.Epochs.{epoch_start}
 use Rattle.clause_arena.specs.Entries.{Entries}
-use Rattle.trail_core.specs.Trails.{TrailState, IsTrail, IsBacktracked}
-use Rattle.watch_lists.specs.Lists.{WatchLists, IsAttached}
+use Rattle.trail_core.specs.Trails.{IsTrail, IsBacktracked}
+use Rattle.watch_lists.specs.Lists.{WatchLists}
+use Rattle.watch_lists.specs.Moving.{moved_lists}
+use Rattle.watch_lists.specs.Steps.Compacting.{IsCompacted}
+use Rattle.watch_lists.proofs.Compacted.{ready_compacted}
 use Rattle.lrat_log.specs.Entries.{Recorded}
 use Rattle.lrat_log.specs.Fresh.{learnt_in}
 use Rattle.search_policy.specs.Epochs.{EpochState}
@@ -29,21 +32,17 @@ over_after s b r same noted epochs over =
     ap (λ (e : EpochState). epoch_start e.epoch) (epochs ∙ same.epochs) in
     omega (arith, count, end, over)
 
-pub solves_tidied : (s b r : Search) (a : Entries) (v : WatchLists) (u : TrailState) → IsSameButTrail s b → IsNoted b.journal r.journal
-    → r.epochs ≡ b.epochs → Solves r → IsTrail r.trail → r.trail.level ≡ 0 → HaveUnits r.trail.entries → IsThinned r.arena a
-    → IsAttached a v → v.vars ≡ r.watches.vars
-    → length (learnt_in s.journal.entries s.journal.query) ≤ epoch_start s.epochs.epoch → u ≡ record r.trail { gone = 0 }
-    → IsSolving r.analyser r.settled a v u r.journal r.epochs
-solves_tidied s b r a v u same noted epochs h trail root units thin attached vars over is =
-    solving_thinned r.analyser r.analyser r.settled r.arena a r.watches v r.trail u r.journal r.epochs h trail root units thin attached vars
-    (over_after s b r same noted epochs over) refl is
+pub solves_tidied : (s b r : Search) (a : Entries) (moves : List (Option ℕ)) (v : WatchLists) → IsSameButTrail s b
+    → IsNoted b.journal r.journal → r.epochs ≡ b.epochs → Solves r → IsTrail r.trail → r.trail.level ≡ 0 → HaveUnits r.trail.entries
+    → IsThinned r.arena a → IsCompacted r.arena a moves → v ≡ moved_lists moves r.watches
+    → length (learnt_in s.journal.entries s.journal.query) ≤ epoch_start s.epochs.epoch
+    → IsSolving r.analyser r.settled a v r.trail r.journal r.epochs
+solves_tidied s b r a moves v same noted epochs h trail root units thin compacted followed over =
+    solving_thinned r.analyser r.analyser r.settled r.arena a r.watches v r.trail r.journal r.epochs h trail root units thin
+    (ready_compacted r.arena a moves r.watches v r.trail h.bears.searching.ready compacted followed)
+    (over_after s b r same noted epochs over) refl
 
-guided_lowered : (t : TrailState) (assume chunk : Literals) → IsGuided assume chunk t → IsGuided assume chunk (record t { gone = 0 })
-guided_lowered t assume chunk h = record { assumptions = h.assumptions; split = h.split }
-
-pub guided_tidied : (s b r : Search) (u : TrailState) → IsBacktracked 0 s.trail b.trail → StaysGuided b r → u ≡ record r.trail { gone = 0 }
-    → (assume chunk : Literals) → IsGuided assume chunk s.trail → IsGuided assume chunk u
-guided_tidied s b r u back stays is assume chunk h =
-    subst (λ (t : TrailState). IsGuided assume chunk t) (sym is)
-    (guided_lowered r.trail assume chunk
-    (stays assume chunk (guided_backtracked s.trail b.trail 0 back (omega arith) assume chunk h)))
+pub guided_tidied : (s b r : Search) → IsBacktracked 0 s.trail b.trail → StaysGuided b r
+    → (assume chunk : Literals) → IsGuided assume chunk s.trail → IsGuided assume chunk r.trail
+guided_tidied s b r back stays assume chunk h =
+    stays assume chunk (guided_backtracked s.trail b.trail 0 back (omega arith) assume chunk h)

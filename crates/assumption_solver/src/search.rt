@@ -8,6 +8,7 @@ ghost use Rattle.trail_core.specs.Trails.{HasVariable, IsFree, IsTrail, with_ent
 ghost use Rattle.watch_lists.specs.Clauses.{IsFalsified};
 ghost use Rattle.watch_lists.specs.Laws.{Agrees};
 ghost use Rattle.watch_lists.specs.Propagating.{StepSays};
+ghost use Rattle.watch_lists.specs.Steps.Compacting.{IsCleared, IsCompacted};
 ghost use Rattle.lrat_log.specs.Entries.{learnt_count, known_after, with_new_query};
 ghost use Rattle.lrat_log.specs.Fresh.{learnt_in};
 ghost use Rattle.assumption_solver.specs.Units.{IsUnitAt};
@@ -25,7 +26,7 @@ use crate::journal::Journal;
 use crate::phases::Phases;
 use crate::query::{Course, Next, Query, Sweep};
 use chooser_core::Chooser;
-use clause_arena::{Arena, ClauseRef};
+use clause_arena::{Arena, ClauseRef, Moves};
 use cnf_core::{Lit, NoMemory, Values};
 use conflict_analysis::{Analyser, Learnt};
 use lrat_log::laws::logged_clause_is_entailed;
@@ -258,7 +259,8 @@ impl<'f> Search<'f> {
         Ok(())
     }
 
-    /// Goes back to the root, removes clauses that were learnt, and watches the others anew.
+    /// Goes back to the root and removes clauses that were learnt. The others stay watched, and what was propagated
+    /// stays so.
     pub fn tidy(&mut self, chooser: &mut Box<dyn Chooser>) -> Result<(), NoMemory>
         requires solves { Solves self.old }
         requires over { length (learnt_in self.old.journal.entries self.old.journal.query) ≤ epoch_start self.old.epochs.epoch }
@@ -271,9 +273,8 @@ impl<'f> Search<'f> {
     {
         self.go_back(0, chooser);
         self.settle_roots()?;
-        thin(self.alloc, &mut self.arena, &self.trail)?;
-        self.watches.rebuild(&self.arena)?;
-        self.trail.set_gone(0);
+        let moves = thin(self.alloc, &mut self.arena, &self.trail)?;
+        self.watches.follow(&moves);
         self.removals = Removals {
             done: self.removals.done.saturating_add(1),
             learnt: self.journal.count_learnt(),
@@ -390,20 +391,22 @@ fn free_above(trail: &Trail, level: u32, phases: &mut Phases, chooser: &mut Box<
     }
 }
 
-/// Removes learnt clauses, and keeps the others alone.
-fn thin(alloc: Global, arena: &mut Arena, trail: &Trail) -> Result<(), NoMemory>
-    ensures { OnOk result (IsThinned arena.old arena.new) }
+/// Removes learnt clauses, keeps the others alone, and says where they went.
+fn thin(alloc: Global, arena: &mut Arena, trail: &Trail) -> Result<Moves, NoMemory>
+    ensures thinned { OnOk result (IsThinned arena.old arena.new) }
+    ensures compacted { IfOk result (λ moves. IsCompacted arena.old arena.new moves) }
 {
     for r in &choose_removals(alloc, arena, trail)? {
         remove_learnt(arena, *r);
     }
-    let _moves = arena.compact()?;
-    Ok(())
+    let moves = arena.compact()?;
+    Ok(moves)
 }
 
 /// Removes a clause if it is a live one that was learnt.
 fn remove_learnt(arena: &mut Arena, r: ClauseRef)
-    ensures { IsThinned arena.old arena.new }
+    ensures thinned { IsThinned arena.old arena.new }
+    ensures cleared { IsCleared arena.old arena.new }
 {
     if r.place() >= arena.len() {
         return;

@@ -17,7 +17,7 @@ use Rattle.clause_arena.specs.declared.arena.Mark.{Mark}
 use Rattle.clause_arena.proofs.Laid.{IsKept, length_is, laid_at, entry_is, bounds_of}
 
 -- entries with the same fields
-same_entries : (e f : Entry) → e.id ≡ f.id → e.lits ≡ f.lits → e.learnt ≡ f.learnt → e.live ≡ f.live → e ≡ f
+pub same_entries : (e f : Entry) → e.id ≡ f.id → e.lits ≡ f.lits → e.learnt ≡ f.learnt → e.live ≡ f.live → e ≡ f
 same_entries e f id lits learnt live =
     let first : e ≡ record e { id = f.id } = ap (λ x. record e { id = x }) id in
     let second : record e { id = f.id } ≡ record e { id = f.id; lits = f.lits } =

@@ -1,3 +1,3 @@
 pub mod Laid
 pub mod Changed
-pub mod Moved
+pub mod Sinking

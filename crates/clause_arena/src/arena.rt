@@ -1,9 +1,11 @@
-ghost use Rattle.std.specs.Prelude.{◌≡◌, ◌+◌, ◌<◌, ◌≤◌, ℕ, [], ◌++◌, ◌∷◌, length, slice_index, slice_range, if◌then◌else◌, IfOk, OnOk};
-ghost use Rattle.std.specs.Prelude.{OnErr, Some, None};
+ghost use Rattle.std.specs.Prelude.{◌≡◌, ◌+◌, ◌<◌, ◌≤◌, ℕ, [], ◌∷◌, length, slice_index, slice_range, true, IfOk, OnOk};
+ghost use Rattle.std.specs.Prelude.{OnErr};
 ghost use Rattle.clause_arena.specs.Entries.{IsLive, entry_at, len_of, literal_of, new_entry, with_entry, without_clause, with_swap};
 ghost use Rattle.clause_arena.specs.Entries.{live_entries, moved_to, move_of};
 ghost use Rattle.std.specs.Vec.{vec_capacity, vec_len};
 ghost use Rattle.clause_arena.specs.Steps.Opened.{opened};
+ghost use Rattle.clause_arena.specs.Steps.Layout.{mark_at, IsLaidOut};
+ghost use Rattle.clause_arena.specs.Steps.Sinking.{MaySink, IsOneDown, IsSunk};
 
 use crate::{ClauseRef, Moves};
 use cnf_core::{Lit, NoMemory};
@@ -186,39 +188,90 @@ impl Arena {
         self.marks[r.place() as usize].live = false;
     }
 
-    /// Keeps the live clauses alone, in their order, and says where each one went. Without memory for
-    /// it the arena stays as it was.
+    /// Keeps the live clauses alone, in their order, and says where each one went. The clauses before the first
+    /// that was removed stay where they are, and cost one look at each. Without memory for it the arena stays as
+    /// it was.
     pub fn compact(&mut self) -> Result<Moves, NoMemory>
         ensures kept { OnOk result (self.new ≡ live_entries self.old) }
         ensures moves { IfOk result (λ m. (r : ℕ) → move_of m r ≡ moved_to self.old r) }
         ensures err { OnErr result (self.new ≡ self.old) }
     {
-        let alloc = self.allocator();
-        let mut kept = Arena::new(alloc);
-        let mut to = Vec::with_capacity(alloc, self.len() as usize)?;
-        for place in 0..self.len() {
-            to.push(self.copy_live(ClauseRef::at(place), &mut kept)?)?;
+        let first = first_removed(&self.marks);
+        let mut to = Vec::with_capacity(self.allocator(), self.marks.len() - first)?;
+        if first == self.marks.len() {
+            return Ok(Moves::new(first as u32, to));
         }
-        *self = kept;
-        Ok(Moves::new(to))
-    }
-
-    /// Adds a clause to another arena where it is live, and says where it stands there.
-    fn copy_live(&self, r: ClauseRef, kept: &mut Arena) -> Result<Option<ClauseRef>, NoMemory>
-        requires { r < length self.now }
-        ensures entries { OnOk result (kept.new ≡ kept.old ++ (if (entry_at self.now r).live then entry_at self.now r ∷ [] else [])) }
-        ensures place { IfOk result (λ to. to ≡ (if (entry_at self.now r).live then Some (length kept.old) else None)) }
-    {
-        if !self.is_live(r) {
-            return Ok(None);
-        }
-        let to = kept.add(self.lits(r), self.id(r), self.is_learnt(r))?;
-        Ok(Some(to))
+        let kept = sink_live(
+            &mut self.lits,
+            &mut self.starts,
+            &mut self.marks,
+            first,
+            &mut to,
+        );
+        let end = start(&self.starts, kept);
+        self.lits.truncate(end);
+        self.starts.truncate(kept + 1);
+        self.marks.truncate(kept);
+        Ok(Moves::new(first as u32, to))
     }
 
     fn allocator(&self) -> Global {
         *self.lits.allocator()
     }
+}
+
+/// The place of the first removed clause, or how many clauses there are.
+fn first_removed(marks: &[Mark]) -> usize
+    ensures within { result ≤ length marks.now }
+    ensures live { (k : ℕ) → k < result → (mark_at marks.now k).live ≡ true }
+{
+    let mut place = 0;
+    while place < marks.len() && marks[place].live {
+        place += 1;
+    }
+    place
+}
+
+/// Moves the live clauses from the first removed one on down, so that no place is left between them, and writes where
+/// each clause went. Answers how many clauses are live.
+fn sink_live(
+    lits: &mut Vec<Lit>,
+    starts: &mut Vec<u32>,
+    marks: &mut Vec<Mark>,
+    first: usize,
+    to: &mut Vec<Option<ClauseRef>>,
+) -> usize
+    requires laid { IsLaidOut lits.old.items starts.old.items marks.old.items }
+    requires live { (k : ℕ) → k < first → (mark_at marks.old.items k).live ≡ true }
+    requires some { first < vec_len marks.old }
+    requires room { (vec_len to.old ≡ 0) × (vec_len marks.old ≤ first + vec_capacity to.old) }
+    ensures { IsSunk lits.old.items starts.old.items marks.old.items first (vec_len marks.old) result
+        to.new.items lits.new.items starts.new.items marks.new.items }
+{
+    let mut kept = first;
+    for place in first..marks.len() {
+        if !marks[place].live {
+            to.push_reserved(None);
+            continue;
+        }
+        sink(lits, starts, marks, place, kept);
+        to.push_reserved(Some(ClauseRef::at(kept as u32)));
+        kept += 1;
+    }
+    kept
+}
+
+/// Moves a clause down to another place, right behind the clause before that.
+fn sink(lits: &mut Vec<Lit>, starts: &mut Vec<u32>, marks: &mut Vec<Mark>, place: usize, to: usize)
+    requires { MaySink lits.old.items starts.old.items marks.old.items place to }
+    ensures { IsOneDown lits.old.items starts.old.items marks.old.items place to lits.new.items starts.new.items marks.new.items }
+{
+    let from = start(starts, place);
+    let end = start(starts, place + 1);
+    let at = start(starts, to);
+    lits.copy_within(from..end, at);
+    starts[to + 1] = (at + (end - from)) as u32;
+    marks[to] = marks[place];
 }
 
 /// More literals or clauses than places of 32 bits can name are refused as want of memory.

@@ -3,7 +3,8 @@
 //!
 //! The words `random VARIABLES CLAUSES PICK BUDGET` solve a random formula of clauses of three literals, which the
 //! number PICK picks; `print VARIABLES CLAUSES PICK` prints it in the DIMACS format; `read BUDGET` solves the DIMACS
-//! text on standard input. The solver learns at most BUDGET clauses. `bench/solver.sh` runs it and measures.
+//! text on standard input. The solver learns at most BUDGET clauses. `load` reads such a text and makes the solver
+//! alone, so that what the query takes can be told. `bench/solver.sh` runs it and measures.
 #![tactic(auto)]
 
 mod print;
@@ -26,6 +27,8 @@ use threes::random_formula;
 enum Task {
     /// Solve the formula on standard input.
     Read,
+    /// Make a solver for it.
+    Load,
     /// Solve a random formula.
     Random,
     /// Print it.
@@ -37,6 +40,7 @@ impl Task {
     fn of(name: &str) -> Option<Task> {
         match name {
             "read" => Some(Task::Read),
+            "load" => Some(Task::Load),
             "random" => Some(Task::Random),
             "print" => Some(Task::Print),
             _ => None,
@@ -58,6 +62,7 @@ fn main(rt: HostRuntime) -> anyhow::Result<()> {
             let [budget, ..] = numbers;
             report(&rt, &read(rt)?, budget)
         }
+        Some(Task::Load) => { report_loading(&rt, &read(rt)?) }
         Some(Task::Random) => {
             let [vars, clauses, pick, budget] = numbers;
             report(
@@ -71,7 +76,7 @@ fn main(rt: HostRuntime) -> anyhow::Result<()> {
             print_formula(&rt, &random_formula(rt.alloc(), vars, clauses, pick)?)?;
             Ok(())
         }
-        None => Err(anyhow!("the words are read, random or print, and numbers")),
+        None => Err(anyhow!("the words are read, load, random or print, and numbers")),
     }
 }
 
@@ -103,12 +108,24 @@ fn solved(alloc: Global, formula: &Formula, budget: u32) -> Result<Outcome, NoMe
     })
 }
 
+/// How many entries the log has of the loading alone.
+fn loaded(alloc: Global, formula: &Formula) -> Result<u64, NoMemory> {
+    let solver = Solver::new(alloc, formula)?;
+    Ok(solver.log().len())
+}
+
 /// Solves, and prints what came of it.
 fn report(rt: &HostRuntime, formula: &Formula, budget: u32) -> anyhow::Result<()> {
     let outcome = solved(rt.alloc(), formula, budget)?;
     println!(rt; "{}", outcome.found)?;
     print_counts(rt, &outcome.counts)?;
     println!(rt; "{} log entries", outcome.entries)?;
+    Ok(())
+}
+
+/// Makes a solver, and prints how long its log is.
+fn report_loading(rt: &HostRuntime, formula: &Formula) -> anyhow::Result<()> {
+    println!(rt; "{} log entries", loaded(rt.alloc(), formula)?)?;
     Ok(())
 }
 

@@ -1,7 +1,7 @@
 -- How a caller keeps arena, watches and trail ready for propagation across its own steps.
 --
 -- attached_empty                         after `Watches::new`, over an arena without clauses to watch
--- clean_none, clean_added, clean_removed, clean_compacted     what `rebuild` asks of the clauses
+-- clean_none, clean_added, clean_removed     what `rebuild` asks of the clauses
 -- ready_new                              after `Arena::new`, `Watches::new` and `Trail::new`
 -- ready_empty, ready_attached            after `rebuild`, over a new trail or at the root
 -- ready_decided, ready_pushed            after `Trail::decide` on a quiet trail, after `Trail::push`
@@ -11,16 +11,14 @@
 -- ready_short, ready_added, ready_first  after a clause was added, and attached if it has two literals
 -- watches_allow                          the rule for an added clause whose first literal is true
 -- settled_below                          nothing was left to propagate before the present level
+-- Removing clauses and compacting: `Compacted`.
 use Rattle.std.proofs.Common.{◌≡◌, ◌≢◌, ℕ, ◌+◌, ◌<◌, ◌≤◌, ◌⊎◌, Bool, true, false, List, [], ◌∷◌, length, get_or, Contains, refl, sym, ap}
 use Rattle.std.proofs.Common.{◌∙◌, subst, inl, inr, ⊎_elim, arith}
 use Rattle.std.proofs.lemmas.List.{length_push, get_or_push, get_or_append_left, get_or-take, length-set, get_or-set_same, get_or-set_other}
-use Rattle.std.proofs.lemmas.List.{get_or_default}
-use Rattle.std.proofs.lemmas.List.Elements.{Contains-get_or}
-use Rattle.cnf_core.proofs.Lists.{kept_of_Contains-filter}
 use Rattle.std.proofs.lemmas.Bool.{cases_eq, cases_lt, false≢true}
 use Rattle.cnf_core.specs.Literals.{Literal, negated}
-use Rattle.clause_arena.specs.Entries.{Entry, Entries, no_entry as no_clause, no_literal, entry_at, literal_of, is_live, IsLive}
-use Rattle.clause_arena.specs.Entries.{with_entry as with_new, without_clause, live_entries}
+use Rattle.clause_arena.specs.Entries.{Entry, Entries, no_entry as no_clause, no_literal, entry_at, literal_of, IsLive}
+use Rattle.clause_arena.specs.Entries.{with_entry as with_new, without_clause}
 use Rattle.trail_core.specs.declared.entry.Assigned.{Assigned}
 use Rattle.trail_core.specs.declared.entry.Reason.{Reason}
 use Rattle.trail_core.specs.declared.entry.Reason.TheVariants.{Decision}
@@ -298,19 +296,6 @@ clean_removed n a d here old r long =
     } in
     subst (λ (e : Entry). IsClean n e.lits) (sym same) (old r was))
     (cases_eq r d)
-
--- and where the live ones alone are kept
-pub clean_compacted : (n : ℕ) (a : Entries) → AreClean n a → AreClean n (live_entries a)
-clean_compacted n a old r long =
-    let x = entry_at (live_entries a) r in
-    let kept = kept_of_Contains-filter is_live a x (Contains-get_or (live_entries a) r no_clause long.live.present) in
-    let h : Contains a x = kept.member in
-    let is : entry_at a h.0 ≡ x = get_or_default a h.0 no_clause x h.1 ∙ h.2 in
-    let was : IsLong a h.0 = record {
-      live = record { present = h.1; live = ap (λ (e : Entry). e.live) is ∙ long.live.live };
-      long = subst (λ (e : Entry). 2 ≤ length e.lits) (sym is) long.long;
-    } in
-    subst (λ (e : Entry). IsClean n e.lits) is (old h.0 was)
 
 filled_old : (a : Entries) (w : WatchLists) (e : Entry) → IsAttached a w → IsFilled (λ r. r < length a) (with_new a e) w
 filled_old a w e h = record {

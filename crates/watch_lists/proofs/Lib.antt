@@ -7,4 +7,6 @@ pub mod Turns
 pub mod Rebuilt
 pub mod QuietTrails
 pub mod Kept
+pub mod Moving
+pub mod Compacted
 pub mod CleanClauses

@@ -2,9 +2,8 @@
 use Rattle.std.proofs.Common.{◌≡◌, ◌≢◌, ℕ, ◌+◌, ◌-◌, ◌<◌, ◌≤◌, ◌⊎◌, Bool, true, false, not, eqb, List, [], ◌∷◌, ◌++◌, length, get_or}
 use Rattle.std.proofs.Common.{swap_remove, Contains, refl, sym, ap, ◌∙◌, subst, inl, inr, ⊎_elim, arith}
 use Rattle.std.proofs.lemmas.List.{length_push, get_or_push, length-set}
-use Rattle.std.proofs.lemmas.Bool.{cases_eq, cases_lt, eqb-true, eq-eqb, not-false, false≢true}
-use Rattle.cnf_core.specs.Literals.{Literal, negated, code_of, IsWithin}
-use Rattle.trail_core.proofs.Literals.{same_code}
+use Rattle.std.proofs.lemmas.Bool.{cases_eq, cases_lt, false≢true}
+use Rattle.cnf_core.specs.Literals.{Literal, negated, IsWithin}
 use Rattle.clause_arena.specs.Entries.{Entry, Entries, no_literal, entry_at, len_of, literal_of, with_swap}
 use Rattle.trail_core.specs.declared.entry.Assigned.{Assigned}
 use Rattle.trail_core.specs.declared.entry.Reason.TheVariants.{Clause}

@@ -1,3 +1,4 @@
+pub mod Compacting
 pub mod Packed
 pub mod Lists
 pub mod Visiting

@@ -5,7 +5,7 @@
 //!
 //! Contracts see [`Watches`] as the lists (`specs/Lists`); `specs/Watching` has the rule that ties arena,
 //! watches and trail, and `specs/Propagating` what a propagation does. Lemmas by which callers keep the rule
-//! across their own steps stand in `proofs/Kept`.
+//! across their own steps stand in `proofs/Kept`, and for a compaction in `proofs/Compacted`.
 #![tactic(auto)]
 
 pub mod laws;

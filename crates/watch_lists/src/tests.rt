@@ -3,6 +3,7 @@ ghost use Rattle.cnf_core.specs.Literals.{IsWithin};
 ghost use Rattle.clause_arena.specs.Entries.{IsLive};
 ghost use Rattle.trail_core.specs.Trails.{IsFree};
 ghost use Rattle.watch_lists.specs.Clauses.{AreClean};
+ghost use Rattle.watch_lists.specs.Steps.Compacting.{IsCleared};
 ghost use Rattle.watch_lists.specs.Watching.{IsReady};
 
 use crate::{Step, Watches};
@@ -88,7 +89,8 @@ fn is_live(arena: &Arena, r: ClauseRef) -> bool
 /// Removes a live clause.
 fn remove(rt: &impl Abort, arena: &mut Arena, vars: u32, r: ClauseRef)
     requires { AreClean vars arena.old }
-    ensures { AreClean vars arena.new }
+    ensures clean { AreClean vars arena.new }
+    ensures cleared { IsCleared arena.old arena.new }
 {
     assert!(rt; is_live(arena, r));
     arena.remove(r);
@@ -187,8 +189,7 @@ fn a_chain_is_propagated_and_a_removed_clause_no_more(rt: HostRuntime) -> Result
     let moves = arena.compact()?;
     assert_eq!(rt; shared(&moves).to(second), None);
     assert_eq!(rt; moves.to(first), Some(ClauseRef::at(0)));
-    watches.rebuild(&arena)?;
-    trail.set_gone(0);
+    watches.follow(&moves);
     let step = decide(&rt, &mut watches, &mut arena, &mut trail, 1)?;
     assert_eq!(rt; step, Step::Quiet);
     assert_eq!(rt;

@@ -1,6 +1,7 @@
 ghost use Rattle.std.specs.Prelude.{◌≡◌, ◌<◌, ◌^◌};
+ghost use Rattle.watch_lists.specs.Moving.{GoDown, moved_watch};
 
-use clause_arena::ClauseRef;
+use clause_arena::{ClauseRef, Moves};
 use cnf_core::Lit;
 use std::marker::Model;
 
@@ -73,5 +74,17 @@ impl Watch {
         ensures { result ≡ self.binary }
     {
         self.code >= PLACES
+    }
+
+    /// The watch with its clause's new place, if the clause stays.
+    #[inline(always)]
+    pub fn moved(self, moves: &Moves) -> Option<Watch>
+        requires { GoDown moves.now }
+        ensures { result ≡ moved_watch moves.now self }
+    {
+        let Some(clause) = moves.to(self.clause()) else {
+            return None;
+        };
+        Some(Watch::new(clause, self.blocker(), self.is_binary()))
     }
 }

@@ -4,6 +4,7 @@ ghost use Rattle.clause_arena.specs.Entries.{entry_at, len_of, literal_of};
 ghost use Rattle.trail_core.specs.Trails.{HasLiteral};
 ghost use Rattle.watch_lists.specs.Clauses.{IsLong, IsClean, AreClean, IsReordered};
 ghost use Rattle.watch_lists.specs.Lists.{IsSized, list_of, watch_at, empty_lists, with_watch, with_clause, with_clauses, IsAttached};
+ghost use Rattle.watch_lists.specs.Moving.{GoDown, moved_list, moved_lists};
 ghost use Rattle.watch_lists.specs.Steps.Lists.{with_watch_at, without_watch};
 ghost use Rattle.watch_lists.specs.Watching.{IsReady};
 ghost use Rattle.watch_lists.specs.Steps.Visiting.{IsOther, AreFalseBelow, IsAdvanced, IsVisiting, FateSays, ForceSays, VisitSays};
@@ -12,7 +13,7 @@ ghost use Rattle.watch_lists.specs.Propagating.{IsPropagated, StepSays};
 use crate::Step;
 use crate::step::Fate;
 use crate::watch::{PLACES, Watch};
-use clause_arena::{Arena, ClauseRef};
+use clause_arena::{Arena, ClauseRef, Moves};
 use cnf_core::{Lit, NoMemory};
 use std::alloc::Global;
 use std::marker::Model;
@@ -176,6 +177,17 @@ impl Watches {
         }
     }
 
+    /// Follows the moves of a compaction: takes out the watches of clauses that are gone, and gives the others the
+    /// new places of their clauses. Nothing is attached anew, and no memory is asked for.
+    pub fn follow(&mut self, moves: &Moves)
+        requires { GoDown moves.now }
+        ensures { self.new ≡ moved_lists moves.now self.old }
+    {
+        for list in self.lists.iter_mut() {
+            follow_moves(list, moves);
+        }
+    }
+
     /// Propagates the entries of the trail that weren't yet, in their order: where a live clause of two or
     /// more literals has one literal without value and all others are false, that one is pushed with the
     /// clause as its reason. It ends where nothing is left, where a live clause is false, or without memory
@@ -286,6 +298,22 @@ impl Watches {
             None => force(trail, first, r),
         }
     }
+}
+
+/// Takes the watches of clauses that are gone out of a list, and gives the others the new places of their clauses.
+fn follow_moves(list: &mut Vec<Watch>, moves: &Moves)
+    requires { GoDown moves.now }
+    ensures { list.new.items ≡ moved_list moves.now list.old.items }
+{
+    let mut kept = 0;
+    for at in 0..list.len() {
+        let Some(watch) = list[at].moved(moves) else {
+            continue;
+        };
+        list[kept] = watch;
+        kept += 1;
+    }
+    list.truncate(kept);
 }
 
 /// Makes the one literal of a clause true whose others are all false; where it is false too, so is the clause.
