@@ -10,6 +10,9 @@
 mod kind;
 pub mod laws;
 mod log;
+mod numbers;
+mod packing;
+mod store;
 #[cfg(test)]
 mod tests;
 
