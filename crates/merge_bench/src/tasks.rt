@@ -6,6 +6,7 @@ use crate::drawn::{draw_hints, draw_lits};
 use crate::logs::{Entry, VARS, drawn_log, only_one};
 use cert_merge::{merge, merge_needed, trim};
 use cnf_core::{Formula, Lit, NoMemory};
+use lrat_checker::Checker;
 use lrat_lines::Proof;
 use lrat_log::Log;
 use samples::Draws;
@@ -26,6 +27,8 @@ pub enum Task {
     Trim,
     /// Merge and trim the logs in one pass.
     Needed,
+    /// Merge the logs, and have the separate checker take each line.
+    Check,
 }
 
 impl Task {
@@ -38,6 +41,7 @@ impl Task {
             "merge" => Some(Task::Merge),
             "trim" => Some(Task::Trim),
             "needed" => Some(Task::Needed),
+            "check" => Some(Task::Check),
             _ => None,
         }
     }
@@ -79,6 +83,7 @@ pub fn run(alloc: Global, task: Task, size: Size) -> Result<Counts, NoMemory> {
         Task::Merge => merged(alloc, &formula, &logs),
         Task::Trim => trimmed(alloc, &formula, &logs),
         Task::Needed => needed(alloc, &formula, &logs),
+        Task::Check => checked(alloc, &formula, &logs),
     }
 }
 
@@ -159,6 +164,23 @@ fn merged(alloc: Global, formula: &Formula, logs: &[Log]) -> Result<Counts, NoMe
     requires { All (IsWhole formula.now) logs.now }
 {
     Ok(counts_of(&merge(alloc, formula, logs)?))
+}
+
+/// How many lines of the merged proof the separate checker takes, and how many hints these have.
+fn checked(alloc: Global, formula: &Formula, logs: &[Log]) -> Result<Counts, NoMemory>
+    requires { All (IsWhole formula.now) logs.now }
+{
+    let proof = merge(alloc, formula, logs)?;
+    let mut checker = Checker::new(alloc, formula)?;
+    let mut counts = Counts { lines: 0, hints: 0 };
+    for line in &proof.lines {
+        if checker.line(line).is_err() {
+            break;
+        }
+        counts.lines = counts.lines.saturating_add(1);
+        counts.hints = counts.hints.saturating_add(line.hints().len() as u64);
+    }
+    Ok(counts)
 }
 
 /// The counts of what the literal 1 needs of the merged proof.
