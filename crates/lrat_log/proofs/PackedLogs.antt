@@ -12,7 +12,8 @@ use Rattle.lrat_log.specs.Kept.{IsNext}
 use Rattle.lrat_log.specs.Packed.{hint_numbers, packed_numbers}
 use Rattle.lrat_log.specs.Steps.Heads.{front_of}
 use Rattle.lrat_log.specs.Steps.Paged.{Stored}
-use Rattle.lrat_log.specs.Steps.Unpacked.{stored_entry, stored_entries, unpacked, unpacked_log, last_entry, IsWord, IsCode, IsPackable, IsKept}
+use Rattle.lrat_log.specs.Steps.Unpacked.{stored_entry, stored_entries, unpacked, unpacked_log, last_entry, IsWord, IsCode}
+use Rattle.lrat_log.specs.Steps.Unpacked.{IsPackable, IsKept}
 use Rattle.lrat_log.proofs.Kept.{counted_push, counted_next}
 use Rattle.lrat_log.proofs.Unpacking.{stored_more, packable_more, last_is, count_stored, entries_back}
 
@@ -21,7 +22,8 @@ pub count_kept : (F : Cnf) (all : List Stored) (query clock : ℕ) (used : Bool)
     → IsKept (unpacked_log F all query clock) all used learnt last_query
     → length all ≡ length (unpacked (length F.clauses + 1) no_entry all)
 count_kept F all query clock used learnt last_query kept =
-    ap (λ (ss : List Stored). length ss) kept.stored ∙ count_stored (length F.clauses + 1) no_entry (unpacked (length F.clauses + 1) no_entry all)
+    ap (λ (ss : List Stored). length ss) kept.stored ∙ count_stored (length F.clauses + 1) no_entry (unpacked
+    (length F.clauses + 1) no_entry all)
 
 -- hints of the next entry are below its id
 pub hints_low : (id n : ℕ) (hints : List ℕ) → n ≤ id → All (IsHint n) hints → All (λ h. h ≤ id) hints
@@ -32,9 +34,12 @@ hints_low id n hints le below =
 pub record HasBytes (F : Cnf) (all : List Stored) (query clock last_query : ℕ) (kind : Kind) (c : Literals) (hints : List ℕ) (now id : ℕ)
     (s : Stored) : Type 0 where
   pub id_is : id ≡ length F.clauses + 1 + length all
-  pub bytes : s.bytes ≡ packed_numbers (front_of (record { kind = kind; query_step = query - last_query; clock_step = now - clock }) c ++ hint_numbers id hints)
-  pub start : s.hints ≡ length (packed_numbers (front_of (record { kind = kind; query_step = query - last_query; clock_step = now - clock }) c))
-  pub words : All IsWord (front_of (record { kind = kind; query_step = query - last_query; clock_step = now - clock }) c ++ hint_numbers id hints)
+  pub bytes : s.bytes ≡ packed_numbers (front_of
+      (record { kind = kind; query_step = query - last_query; clock_step = now - clock }) c ++ hint_numbers id hints)
+  pub start : s.hints ≡ length (packed_numbers (front_of
+      (record { kind = kind; query_step = query - last_query; clock_step = now - clock }) c))
+  pub words : All IsWord (front_of (record { kind = kind; query_step = query - last_query; clock_step = now - clock }) c ++
+      hint_numbers id hints)
   pub codes : All (λ l. IsCode (code_of l)) c
   pub clock_is : s.clock ≡ now
 

@@ -1,5 +1,6 @@
 -- Entries come back out of their bytes, one by one and all together.
-use Rattle.std.proofs.Common.{◌≡◌, ℕ, zero, suc, ◌+◌, ◌-◌, ◌<◌, ◌≤◌, List, [], ◌∷◌, ◌++◌, length, map, take, drop, get_or, refl, sym, ap, ◌∙◌, subst, arith, length-append}
+use Rattle.std.proofs.Common.{◌≡◌, ℕ, zero, suc, ◌+◌, ◌-◌, ◌<◌, ◌≤◌, List, [], ◌∷◌, ◌++◌, length, map, take, drop, get_or, refl, sym}
+use Rattle.std.proofs.Common.{ap, ◌∙◌, subst, arith, length-append}
 use Rattle.std.specs.Prelude.{All, slice_index}
 use Rattle.std.proofs.lemmas.List.{take_at, take_all, drop_at, length-map}
 use Rattle.std.proofs.lemmas.List.Concat.{flat_map-append}
@@ -10,7 +11,9 @@ use Rattle.lrat_log.specs.declared.kind.Kind.TheVariants.{Learnt, Unit as UnitKi
 use Rattle.lrat_log.specs.Entries.{Entry, no_entry}
 use Rattle.lrat_log.specs.Packed.{kind_number, hint_numbers, entry_numbers, packed_number, packed_numbers, packed_entry}
 use Rattle.lrat_log.specs.Steps.Paged.{Stored, stored_at}
-use Rattle.lrat_log.specs.Steps.Unpacked.{values, first, counted_list, kind_of_number, literals_in, hints_in, front_numbers, stored_entry, stored_entries, unpacked_entry, unpacked, IsWord, IsPackable, ArePackable, last_entry}
+use Rattle.lrat_log.specs.Steps.Unpacked.{values, first, counted_list, kind_of_number, literals_in, hints_in, front_numbers}
+use Rattle.lrat_log.specs.Steps.Unpacked.{stored_entry, stored_entries, unpacked_entry, unpacked, IsWord, IsPackable, ArePackable}
+use Rattle.lrat_log.specs.Steps.Unpacked.{last_entry}
 use Rattle.lrat_log.proofs.Groups.{values_packed}
 
 pub kind_back : (k : Kind) → kind_of_number (kind_number k) ≡ k

@@ -23,7 +23,8 @@ use Rattle.lrat_log.specs.Fresh.{HasNoComplements, learnt_in, IsPeer, IsFresh}
 use Rattle.lrat_lines.specs.Tidy.{IsHint}
 use Rattle.lrat_log.specs.Kept.{IsShown}
 use Rattle.lrat_log.specs.Packed.{packed_number}
-use Rattle.lrat_log.specs.Examples.{refuted, by_first_two, only_one, not_two_or_three, with_core, EpochsAreWorked, BytesAreWorked, LogIsWorked}
+use Rattle.lrat_log.specs.Examples.{refuted, by_first_two, only_one, not_two_or_three, with_core, EpochsAreWorked, BytesAreWorked}
+use Rattle.lrat_log.specs.Examples.{LogIsWorked}
 
 -- whether each literal of the first clause stands in the second
 abbrev is_subset : Literals → Literals → Bool

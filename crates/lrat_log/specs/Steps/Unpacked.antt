@@ -1,5 +1,6 @@
 -- Entries out of their bytes.
-use Rattle.std.specs.Prelude.{◌≡◌, ℕ, ◌+◌, ◌-◌, ◌*◌, ◌^◌, ◌<◌, ◌≤◌, ◌==◌, nat_lt, Bool, if◌then◌else◌, List, [], ◌∷◌, length, map, take, drop, slice_index, All, ⊤}
+use Rattle.std.specs.Prelude.{◌≡◌, ℕ, ◌+◌, ◌-◌, ◌*◌, ◌^◌, ◌<◌, ◌≤◌, ◌==◌, nat_lt, Bool, if◌then◌else◌, List, [], ◌∷◌, length, map}
+use Rattle.std.specs.Prelude.{take, drop, slice_index, All, ⊤}
 use Rattle.cnf_core.specs.Literals.{Literals, code_of, literal_of_code}
 use Rattle.cnf_core.specs.Formulas.{Cnf}
 use Rattle.lrat_log.specs.declared.kind.Kind.{Kind}

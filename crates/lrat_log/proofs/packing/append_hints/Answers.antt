@@ -8,7 +8,8 @@ number_at-below-requires c =
     omega (
       arith,
       c.ranges.id.fits,
-      next_number (λ d. d ≤ c.args.id) (values (drop c.args.start c.args.bytes.now)) (values (drop c.loop-k.at c.args.bytes.now)) c.loop-k._k
+      next_number (λ d. d ≤ c.args.id) (values (drop c.args.start c.args.bytes.now)) (values
+          (drop c.loop-k.at c.args.bytes.now)) c.loop-k._k
           c.number_at-count.result.value c.requires c.number_at-count.ensures.value c.loop-k-test.true c.loop-k.invariant.left,
     )
 
@@ -17,7 +18,8 @@ overflow_sub-id c =
     omega (
       arith,
       c.number_at-below.ensures.value,
-      next_number (λ d. d ≤ c.args.id) (values (drop c.args.start c.args.bytes.now)) (values (drop c.loop-k.at c.args.bytes.now)) c.loop-k._k
+      next_number (λ d. d ≤ c.args.id) (values (drop c.args.start c.args.bytes.now)) (values
+          (drop c.loop-k.at c.args.bytes.now)) c.loop-k._k
           c.number_at-count.result.value c.requires c.number_at-count.ensures.value c.loop-k-test.true c.loop-k.invariant.left,
     )
 
@@ -31,7 +33,8 @@ loop-k-preserved c =
           c.number_at-below.ensures.rest;
       hints = mapped_more (λ d. id - d) c.args.hints.now.items c.loop-k.hints.items c.push_reserved.new.self.items
           (id - c.number_at-below.result.value) (drop 1 ns) c.loop-k._k
-          (place_within (λ d. d ≤ id) ns c.loop-k._k c.number_at-count.result.value c.requires c.number_at-count.ensures.value c.loop-k-test.true)
+          (place_within (λ d. d ≤ id) ns c.loop-k._k c.number_at-count.result.value c.requires c.number_at-count.ensures.value
+          c.loop-k-test.true)
           (ap (λ (d : ℕ). id - d) (c.number_at-below.ensures.value ∙ next_is (drop 1 ns) vs c.loop-k._k c.loop-k.invariant.left))
           c.loop-k.invariant.hints c.push_reserved.ensures.items;
       room = omega (arith, c.loop-k.invariant.room, c.push_reserved.ensures.capacity);

@@ -54,7 +54,8 @@ pack-requires c =
       count_kept c.self.inside.formula.now c.self.inside.store c.self.inside.query c.self.inside.clock c.self.inside.query_used
           c.self.inside.learnt c.self.inside.last_query c.self.invariant,
     ))
-    (subst (λ (K : Recorded). All (IsHint (id_after K.formula K.entries)) c.args.hints.now) (sym c.self.view_is) c.requires.next.hints_before)
+    (subst (λ (K : Recorded). All (IsHint (id_after K.formula K.entries)) c.args.hints.now)
+    (sym c.self.view_is) c.requires.next.hints_before)
 
 one_at_most : (b : Bool) → cond b 1 0 ≤ 1
 one_at_most true = omega arith

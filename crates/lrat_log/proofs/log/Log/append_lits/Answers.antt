@@ -10,18 +10,34 @@ use Rattle.lrat_log.proofs.log.Log.append_lits.Goals as goal
 
 pub skip-requires : goal.skip-requires
 skip-requires c k below =
-    word_of (values c.packed-bytes.result.now) (entry_numbers (id_at c.args.self.now c.args.i) (entry_before c.args.self.now c.args.i) (entry_at c.args.self.now c.args.i)) k c.packed-bytes.ensures.numbers c.packed-bytes.ensures.packable.words
+    let L = c.args.self.now in
+    let id = id_at L c.args.i in
+    let before = entry_before L c.args.i in
+    let e = entry_at L c.args.i in
+    let ns = entry_numbers id before e in
+    let vs = values c.packed-bytes.result.now in
+    word_of vs ns k c.packed-bytes.ensures.numbers c.packed-bytes.ensures.packable.words
 
 pub append_lits-requires : goal.append_lits-requires
 append_lits-requires c =
-    literals_counted (id_at c.args.self.now c.args.i) (entry_before c.args.self.now c.args.i) (entry_at c.args.self.now c.args.i) (values (drop c.skip.result c.packed-bytes.result.now)) c.packed-bytes.ensures.packable
-    (lists_left (id_at c.args.self.now c.args.i) (entry_before c.args.self.now c.args.i) (entry_at c.args.self.now c.args.i) (values c.packed-bytes.result.now) (values (drop c.skip.result c.packed-bytes.result.now))
+    let L = c.args.self.now in
+    let id = id_at L c.args.i in
+    let before = entry_before L c.args.i in
+    let e = entry_at L c.args.i in
+    let left = values (drop c.skip.result c.packed-bytes.result.now) in
+    let vs = values c.packed-bytes.result.now in
+    literals_counted id before e left c.packed-bytes.ensures.packable
+    (lists_left id before e vs left
     c.packed-bytes.ensures.numbers c.skip.ensures)
 
 pub returns-clause-ok : goal.returns-clause-ok
 returns-clause-ok c =
+    let L = c.args.self.now in
+    let id = id_at L c.args.i in
+    let before = entry_before L c.args.i in
+    let e = entry_at L c.args.i in
     on_ok_weaker c.append_lits.result
     (λ more. more ∙ ap (λ (ns : List ℕ). c.args.lits.now.items ++ map literal_of_code (counted_list ns)) c.skip.ensures
     ∙ ap (λ (ns : List ℕ). c.args.lits.now.items ++ literals_in ns) c.packed-bytes.ensures.numbers
-    ∙ ap (λ (lits : Literals). c.args.lits.now.items ++ lits) (literals_are (id_at c.args.self.now c.args.i) (entry_before c.args.self.now c.args.i) (entry_at c.args.self.now c.args.i)))
+    ∙ ap (λ (lits : Literals). c.args.lits.now.items ++ lits) (literals_are id before e))
     c.append_lits.ensures.ok

@@ -8,9 +8,14 @@ use Rattle.lrat_log.proofs.log.Log.hint_count.Goals as goal
 
 pub number_at-requires : goal.number_at-requires
 number_at-requires c =
-    word_of (values (drop c.hints_at.result c.packed.result.now)) (hint_numbers (id_at c.args.self.now c.args.i) (entry_at c.args.self.now c.args.i).hints) 0
+    let L = c.args.self.now in
+    let id = id_at L c.args.i in
+    let before = entry_before L c.args.i in
+    let e = entry_at L c.args.i in
+    let left = values (drop c.hints_at.result c.packed.result.now) in
+    word_of left (hint_numbers id e.hints) 0
     (ap (λ (bytes : List ℕ). values (drop c.hints_at.result bytes)) c.packed.ensures.bytes ∙ c.hints_at.ensures)
-    (hint_words (id_at c.args.self.now c.args.i) (entry_before c.args.self.now c.args.i) (entry_at c.args.self.now c.args.i) c.packed.ensures.packable)
+    (hint_words id before e c.packed.ensures.packable)
 
 pub returns : goal.returns
 returns c =

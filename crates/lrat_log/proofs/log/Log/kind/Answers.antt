@@ -7,10 +7,20 @@ use Rattle.lrat_log.proofs.Unpacking.{kind_back}
 use Rattle.lrat_log.proofs.log.Log.kind.Goals as goal
 
 pub number_at-requires : goal.number_at-requires
-number_at-requires c = word_of (values c.packed.result.now) (entry_numbers (id_at c.args.self.now c.args.i) (entry_before c.args.self.now c.args.i) (entry_at c.args.self.now c.args.i)) 0 c.packed.ensures.numbers c.packed.ensures.packable.words
+number_at-requires c =
+    let L = c.args.self.now in
+    let id = id_at L c.args.i in
+    let before = entry_before L c.args.i in
+    let e = entry_at L c.args.i in
+    let ns = entry_numbers id before e in
+    let vs = values c.packed.result.now in
+    word_of vs ns 0 c.packed.ensures.numbers c.packed.ensures.packable.words
 
 pub returns : goal.returns
 returns c =
+    let L = c.args.self.now in
+    let id = id_at L c.args.i in
+    let e = entry_at L c.args.i in
     c.kind_of.ensures
     ∙ ap kind_of_number (c.number_at.ensures.value ∙ ap (λ (ns : List ℕ). first ns) c.packed.ensures.numbers)
-    ∙ kind_back (entry_at c.args.self.now c.args.i).kind
+    ∙ kind_back e.kind

@@ -10,21 +10,41 @@ use Rattle.lrat_log.proofs.log.Log.lit.Goals as goal
 
 pub skip-first-requires : goal.skip-first-requires
 skip-first-requires c k below =
-    word_of (values c.packed-bytes.result.now) (entry_numbers (id_at c.args.self.now c.args.i) (entry_before c.args.self.now c.args.i) (entry_at c.args.self.now c.args.i)) k c.packed-bytes.ensures.numbers c.packed-bytes.ensures.packable.words
+    let L = c.args.self.now in
+    let id = id_at L c.args.i in
+    let before = entry_before L c.args.i in
+    let e = entry_at L c.args.i in
+    let ns = entry_numbers id before e in
+    let vs = values c.packed-bytes.result.now in
+    word_of vs ns k c.packed-bytes.ensures.numbers c.packed-bytes.ensures.packable.words
 
 pub skip-place-requires : goal.skip-place-requires
 skip-place-requires c k below =
-    word_of (values (drop c.skip-first.result c.packed-bytes.result.now))
-    (map code_of (entry_at c.args.self.now c.args.i).literals ++ hint_numbers (id_at c.args.self.now c.args.i) (entry_at c.args.self.now c.args.i).hints) k
-    (literals_left (id_at c.args.self.now c.args.i) (entry_before c.args.self.now c.args.i) (entry_at c.args.self.now c.args.i) (values c.packed-bytes.result.now) (values (drop c.skip-first.result c.packed-bytes.result.now))
+    let L = c.args.self.now in
+    let id = id_at L c.args.i in
+    let before = entry_before L c.args.i in
+    let e = entry_at L c.args.i in
+    let ns = entry_numbers id before e in
+    let first = values (drop c.skip-first.result c.packed-bytes.result.now) in
+    let vs = values c.packed-bytes.result.now in
+    word_of first
+    (map code_of e.literals ++ hint_numbers id e.hints) k
+    (literals_left id before e vs first
     c.packed-bytes.ensures.numbers c.skip-first.ensures)
-    (All-drop IsWord 4 (entry_numbers (id_at c.args.self.now c.args.i) (entry_before c.args.self.now c.args.i) (entry_at c.args.self.now c.args.i)) c.packed-bytes.ensures.packable.words)
+    (All-drop IsWord 4 ns c.packed-bytes.ensures.packable.words)
 
 pub number_at-requires : goal.number_at-requires
 number_at-requires c =
-    let code = code_is (id_at c.args.self.now c.args.i) (entry_at c.args.self.now c.args.i) (values (drop c.skip-first.result c.packed-bytes.result.now))
-    (values (drop c.skip-place.result c.packed-bytes.result.now)) c.args.k c.requires.within
-    (literals_left (id_at c.args.self.now c.args.i) (entry_before c.args.self.now c.args.i) (entry_at c.args.self.now c.args.i) (values c.packed-bytes.result.now) (values (drop c.skip-first.result c.packed-bytes.result.now))
+    let L = c.args.self.now in
+    let id = id_at L c.args.i in
+    let before = entry_before L c.args.i in
+    let e = entry_at L c.args.i in
+    let first = values (drop c.skip-first.result c.packed-bytes.result.now) in
+    let place = values (drop c.skip-place.result c.packed-bytes.result.now) in
+    let vs = values c.packed-bytes.result.now in
+    let code = code_is id e first
+    place c.args.k c.requires.within
+    (literals_left id before e vs first
     c.packed-bytes.ensures.numbers c.skip-first.ensures)
     c.skip-place.ensures in
     let range = c.packed-bytes.ensures.packable.codes c.args.k no_literal c.requires.within in
@@ -32,9 +52,16 @@ number_at-requires c =
 
 pub overflow_cast-number_at : goal.overflow_cast-number_at
 overflow_cast-number_at c =
-    let code = code_is (id_at c.args.self.now c.args.i) (entry_at c.args.self.now c.args.i) (values (drop c.skip-first.result c.packed-bytes.result.now))
-    (values (drop c.skip-place.result c.packed-bytes.result.now)) c.args.k c.requires.within
-    (literals_left (id_at c.args.self.now c.args.i) (entry_before c.args.self.now c.args.i) (entry_at c.args.self.now c.args.i) (values c.packed-bytes.result.now) (values (drop c.skip-first.result c.packed-bytes.result.now))
+    let L = c.args.self.now in
+    let id = id_at L c.args.i in
+    let before = entry_before L c.args.i in
+    let e = entry_at L c.args.i in
+    let first = values (drop c.skip-first.result c.packed-bytes.result.now) in
+    let place = values (drop c.skip-place.result c.packed-bytes.result.now) in
+    let vs = values c.packed-bytes.result.now in
+    let code = code_is id e first
+    place c.args.k c.requires.within
+    (literals_left id before e vs first
     c.packed-bytes.ensures.numbers c.skip-first.ensures)
     c.skip-place.ensures in
     let range = c.packed-bytes.ensures.packable.codes c.args.k no_literal c.requires.within in
@@ -42,9 +69,16 @@ overflow_cast-number_at c =
 
 pub from_code-requires : goal.from_code-requires
 from_code-requires c =
-    let code = code_is (id_at c.args.self.now c.args.i) (entry_at c.args.self.now c.args.i) (values (drop c.skip-first.result c.packed-bytes.result.now))
-    (values (drop c.skip-place.result c.packed-bytes.result.now)) c.args.k c.requires.within
-    (literals_left (id_at c.args.self.now c.args.i) (entry_before c.args.self.now c.args.i) (entry_at c.args.self.now c.args.i) (values c.packed-bytes.result.now) (values (drop c.skip-first.result c.packed-bytes.result.now))
+    let L = c.args.self.now in
+    let id = id_at L c.args.i in
+    let before = entry_before L c.args.i in
+    let e = entry_at L c.args.i in
+    let first = values (drop c.skip-first.result c.packed-bytes.result.now) in
+    let place = values (drop c.skip-place.result c.packed-bytes.result.now) in
+    let vs = values c.packed-bytes.result.now in
+    let code = code_is id e first
+    place c.args.k c.requires.within
+    (literals_left id before e vs first
     c.packed-bytes.ensures.numbers c.skip-first.ensures)
     c.skip-place.ensures in
     let range = c.packed-bytes.ensures.packable.codes c.args.k no_literal c.requires.within in
@@ -52,9 +86,16 @@ from_code-requires c =
 
 pub returns : goal.returns
 returns c =
-    let code = code_is (id_at c.args.self.now c.args.i) (entry_at c.args.self.now c.args.i) (values (drop c.skip-first.result c.packed-bytes.result.now))
-    (values (drop c.skip-place.result c.packed-bytes.result.now)) c.args.k c.requires.within
-    (literals_left (id_at c.args.self.now c.args.i) (entry_before c.args.self.now c.args.i) (entry_at c.args.self.now c.args.i) (values c.packed-bytes.result.now) (values (drop c.skip-first.result c.packed-bytes.result.now))
+    let L = c.args.self.now in
+    let id = id_at L c.args.i in
+    let before = entry_before L c.args.i in
+    let e = entry_at L c.args.i in
+    let first = values (drop c.skip-first.result c.packed-bytes.result.now) in
+    let place = values (drop c.skip-place.result c.packed-bytes.result.now) in
+    let vs = values c.packed-bytes.result.now in
+    let code = code_is id e first
+    place c.args.k c.requires.within
+    (literals_left id before e vs first
     c.packed-bytes.ensures.numbers c.skip-first.ensures)
     c.skip-place.ensures in
     c.from_code.ensures.value

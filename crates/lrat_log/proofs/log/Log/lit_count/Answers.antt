@@ -7,17 +7,35 @@ use Rattle.lrat_log.proofs.log.Log.lit_count.Goals as goal
 
 pub skip-requires : goal.skip-requires
 skip-requires c k below =
-    word_of (values c.packed-bytes.result.now) (entry_numbers (id_at c.args.self.now c.args.i) (entry_before c.args.self.now c.args.i) (entry_at c.args.self.now c.args.i)) k c.packed-bytes.ensures.numbers c.packed-bytes.ensures.packable.words
+    let L = c.args.self.now in
+    let id = id_at L c.args.i in
+    let before = entry_before L c.args.i in
+    let e = entry_at L c.args.i in
+    let ns = entry_numbers id before e in
+    let vs = values c.packed-bytes.result.now in
+    word_of vs ns k c.packed-bytes.ensures.numbers c.packed-bytes.ensures.packable.words
 
 pub number_at-requires : goal.number_at-requires
 number_at-requires c =
-    let left = lists_left (id_at c.args.self.now c.args.i) (entry_before c.args.self.now c.args.i) (entry_at c.args.self.now c.args.i) (values c.packed-bytes.result.now)
-    (values (drop c.skip.result c.packed-bytes.result.now)) c.packed-bytes.ensures.numbers c.skip.ensures in
-    (literals_counted (id_at c.args.self.now c.args.i) (entry_before c.args.self.now c.args.i) (entry_at c.args.self.now c.args.i) (values (drop c.skip.result c.packed-bytes.result.now)) c.packed-bytes.ensures.packable left).count
+    let L = c.args.self.now in
+    let id = id_at L c.args.i in
+    let before = entry_before L c.args.i in
+    let e = entry_at L c.args.i in
+    let ws = values (drop c.skip.result c.packed-bytes.result.now) in
+    let vs = values c.packed-bytes.result.now in
+    let left = lists_left id before e vs
+    ws c.packed-bytes.ensures.numbers c.skip.ensures in
+    (literals_counted id before e ws c.packed-bytes.ensures.packable left).count
 
 pub returns : goal.returns
 returns c =
+    let L = c.args.self.now in
+    let id = id_at L c.args.i in
+    let before = entry_before L c.args.i in
+    let e = entry_at L c.args.i in
+    let left = values (drop c.skip.result c.packed-bytes.result.now) in
+    let vs = values c.packed-bytes.result.now in
     c.number_at.ensures.value
     ∙ ap (λ (ns : List ℕ). first ns)
-    (lists_left (id_at c.args.self.now c.args.i) (entry_before c.args.self.now c.args.i) (entry_at c.args.self.now c.args.i) (values c.packed-bytes.result.now) (values (drop c.skip.result c.packed-bytes.result.now))
+    (lists_left id before e vs left
     c.packed-bytes.ensures.numbers c.skip.ensures)
