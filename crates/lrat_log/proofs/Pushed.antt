@@ -2,7 +2,7 @@
 use Rattle.std.proofs.Common.{◌≡◌, ℕ, ◌+◌, ◌<◌, List, [], ◌∷◌, ◌++◌, length, map, take, get_or, sym, ap, ◌∙◌, subst}
 use Rattle.std.specs.Prelude.{All}
 use Rattle.std.proofs.lemmas.List.{flat_map_more, map_more}
-use Rattle.std.proofs.lemmas.List.Elements.{All-push, All-cons, All-append}
+use Rattle.std.proofs.lemmas.List.Elements.{All-push}
 use Rattle.lrat_log.specs.Packed.{packed_number, packed_numbers}
 use Rattle.lrat_log.specs.Steps.Unpacked.{IsWord}
 
@@ -21,10 +21,3 @@ pub words_more : {X : Type 0} (f : X → ℕ) (n x : ℕ) (xs : List X) (i : ℕ
 words_more f n x xs i d below same before word =
     subst (λ (ys : List ℕ). All IsWord (n ∷ ys)) (sym (map_more f xs i d below))
     (All-push IsWord (n ∷ map f (take i xs)) (f (get_or xs i d)) before (subst IsWord same word))
-
-pub words_before : (k q t : ℕ) (ns ms : List ℕ) → IsWord k → IsWord q → IsWord t → All IsWord ns → All IsWord ms
-    → All IsWord (k ∷ q ∷ t ∷ (ns ++ ms))
-words_before k q t ns ms kind query clock front rest =
-    All-cons IsWord k (q ∷ t ∷ (ns ++ ms)) kind
-    (All-cons IsWord q (t ∷ (ns ++ ms)) query
-    (All-cons IsWord t (ns ++ ms) clock (All-append IsWord ns ms front rest)))

@@ -3,7 +3,7 @@ ghost use Rattle.std.specs.Prelude.{◌≡◌, ◌-◌, ◌≤◌, ◌++◌, len
 ghost use Rattle.cnf_core.specs.Literals.{code_of, literal_of_code};
 ghost use Rattle.lrat_log.specs.Packed.{kind_number, literal_numbers, hint_numbers, packed_numbers};
 ghost use Rattle.lrat_log.specs.Steps.Unpacked.{values, counted_list, kind_of_number, IsWord, IsCode, IsCountedList};
-ghost use Rattle.lrat_log.specs.Steps.Heads.{front_of};
+ghost use Rattle.lrat_log.specs.Steps.Heads.{head_numbers, front_of};
 
 use crate::Kind;
 use crate::numbers::{number_at, push_number};
@@ -69,6 +69,17 @@ pub struct Head {
     pub clock_step: u32,
 }
 
+/// Puts what an entry is for, and the two steps, behind the bytes.
+fn push_head(bytes: &mut Vec<u8>, head: Head) -> Result<(), NoMemory>
+    ensures bytes { OnOk result (bytes.new.items ≡ bytes.old.items ++ packed_numbers (head_numbers head)) }
+    ensures words { OnOk result (All IsWord (head_numbers head)) }
+{
+    push_number(bytes, number_of(head.kind))?;
+    push_number(bytes, head.query_step)?;
+    push_number(bytes, u64::from(head.clock_step))?;
+    Ok(())
+}
+
 /// Puts the bytes of an entry in the place of others, and answers where its hints begin.
 pub fn pack(
     bytes: &mut Vec<u8>,
@@ -84,9 +95,7 @@ pub fn pack(
     ensures codes { OnOk result (All (λ l. IsCode (code_of l)) lits.now) }
 {
     bytes.clear();
-    push_number(bytes, number_of(head.kind))?;
-    push_number(bytes, head.query_step)?;
-    push_number(bytes, u64::from(head.clock_step))?;
+    push_head(bytes, head)?;
     push_lits(bytes, lits)?;
     let start = bytes.len();
     push_hints(bytes, id, hints)?;
