@@ -2,7 +2,7 @@
 use Rattle.std.proofs.Common.{◌≡◌, ℕ, ◌+◌, ◌*◌, ◌<◌, Bool, true, false, IsTrue, if◌then◌else◌, List, [], ◌∷◌, ◌++◌, length, map, take, get_or, Contains, refl, sym, ap, ◌∙◌, subst, arith}
 use Rattle.std.specs.Prelude.{All}
 use Rattle.std.specs.List.{list_any}
-use Rattle.std.proofs.lemmas.List.{take_more, map_more, map-append, length-map, length-take-le, get_or-map, get_or_default}
+use Rattle.std.proofs.lemmas.List.{take_more, map_more, map-append, length-map, length-take-le, get_or-map}
 use Rattle.std.proofs.lemmas.List.Elements.{All-weaker, Contains-get_or}
 use Rattle.cnf_core.specs.Literals.{Literals, IsWithin}
 use Rattle.cnf_core.specs.Formulas.{Cnf}
@@ -112,17 +112,9 @@ literals_read logs p L before out place is none read =
     ∙ ap (λ (M : Recorded). (entry_at M p.entry).literals) (log_read logs p.log L place.log_within is)
 
 -- the place in the order
-abbrev pub nowhere : Place
-nowhere = record { log = 0; entry = 0 }
-
-pub place_at : (F : Cnf) (logs : List Recorded) (ids : List (List ℕ)) (order shown : List Place) (i : ℕ) → IsOrdered F logs ids order
-    → shown ≡ order → i < length order → IsPlace logs (get_or shown i nowhere)
-place_at F logs ids order shown i ordered same within =
-    subst (λ (ps : List Place). IsPlace logs (get_or ps i nowhere)) (sym same) (ordered.is_order.places i nowhere within)
-
-pub same_there : (order shown : List Place) (i : ℕ) → shown ≡ order → i < length order → get_or shown i nowhere ≡ get_or order i (get_or shown i nowhere)
-same_there order shown i same within =
-    ap (λ (ps : List Place). get_or ps i nowhere) same ∙ get_or_default order i nowhere (get_or shown i nowhere) within
+pub place_at : (F : Cnf) (logs : List Recorded) (ids : List (List ℕ)) (order : List Place) (i : ℕ) (p : Place) → IsOrdered F logs ids order
+    → i < length order → p ≡ get_or order i p → IsPlace logs p
+place_at F logs ids order i p ordered within is = subst (IsPlace logs) (sym is) (ordered.is_order.places i p within)
 
 -- the line of a place is the one there
 pub line_there : (F : Cnf) (logs : List Recorded) (ids : List (List ℕ)) (order : List Place) (i : ℕ) (p : Place) → i < length order

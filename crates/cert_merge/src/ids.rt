@@ -1,14 +1,14 @@
-ghost use Rattle.std.specs.Prelude.{◌≡◌, ◌+◌, ◌<◌, ◌≤◌, [], ◌∷◌, ◌++◌, length, map, slice_index, All, OnOk};
+ghost use Rattle.std.specs.Prelude.{◌≡◌, ◌+◌, ◌<◌, ◌≤◌, [], ◌∷◌, ◌++◌, length, map, slice_index, All, IfOk, OnOk};
 ghost use Rattle.cert_merge.specs.Steps.Taking.{listed_id};
 
 use cnf_core::NoMemory;
 use std::alloc::Global;
 use std::marker::Model;
 
-/// The ids of a log's entries in the merged proof, in order.
+/// The ids of a log's entries in the merged proof, in order, in four bytes each.
 #[derive(Drop)]
 pub struct EntryIds {
-    ids: Vec<u64>,
+    ids: Vec<u32>,
 }
 
 impl Model for EntryIds {
@@ -20,13 +20,13 @@ impl Model for EntryIds {
 }
 
 impl EntryIds {
-    /// None. It takes no memory.
-    pub fn new(alloc: Global) -> EntryIds
-        ensures { result ≡ [] }
+    /// None, with room for so many.
+    pub fn with_capacity(alloc: Global, room: u64) -> Result<EntryIds, NoMemory>
+        ensures { IfOk result (λ ids. ids ≡ []) }
     {
-        EntryIds {
-            ids: Vec::new(alloc),
-        }
+        Ok(EntryIds {
+            ids: Vec::with_capacity(alloc, room as usize)?,
+        })
     }
 
     /// How many there are.
@@ -41,11 +41,11 @@ impl EntryIds {
         requires { entry < length self.now }
         ensures { result ≡ slice_index self.now entry }
     {
-        self.ids[entry as usize]
+        u64::from(self.ids[entry as usize])
     }
 
     /// The ids, in order.
-    pub fn as_slice(&self) -> &[u64]
+    pub fn as_slice(&self) -> &[u32]
         ensures { result.now ≡ self.now }
     {
         &self.ids
@@ -55,13 +55,20 @@ impl EntryIds {
     pub fn push(&mut self, id: u64) -> Result<(), NoMemory>
         ensures { OnOk result (self.new ≡ self.old ++ id ∷ []) }
     {
-        self.ids.push(id)?;
+        self.ids.push(narrow(id)?)?;
         Ok(())
     }
 }
 
+/// The number in 32 bits. There is no place for larger ones.
+pub fn narrow(number: u64) -> Result<u32, NoMemory>
+    ensures { IfOk result (λ n. n ≡ number) }
+{
+    u32::try_from(number).map_err(|_| NoMemory)
+}
+
 /// Puts the merged ids in the place of a log's own, where the formula has so many clauses.
-pub fn renumber(hints: &mut [u64], inputs: u64, ids: &[u64])
+pub fn renumber(hints: &mut [u64], inputs: u64, ids: &[u32])
     requires { All (λ h. h < inputs + 1 + length ids.now) hints.old }
     ensures { hints.new ≡ map (listed_id inputs ids.now) hints.old }
 {
@@ -72,13 +79,13 @@ pub fn renumber(hints: &mut [u64], inputs: u64, ids: &[u64])
 
 /// The new id of one that was a log's own.
 #[inline(always)]
-pub fn listed(id: u64, inputs: u64, ids: &[u64]) -> u64
+pub fn listed(id: u64, inputs: u64, ids: &[u32]) -> u64
     requires { id < inputs + 1 + length ids.now }
     ensures { result ≡ listed_id inputs ids.now id }
 {
     if id <= inputs {
         id
     } else {
-        ids[(id - inputs - 1) as usize]
+        u64::from(ids[(id - inputs - 1) as usize])
     }
 }

@@ -55,16 +55,23 @@ impl MergedOrder {
         logs: &[Log],
         keep: &[Lit],
     ) -> Result<Proof, NoMemory>
-        requires ordered { IsOrdered formula.now logs.now self.now.ids.items self.now.places.items }
+        requires ordered { IsOrdered formula.now logs.now self.now.ids.items self.now.places }
         requires keep { HaveUnitEntries logs.now keep.now }
         ensures { IfOk result (λ kept. IsTrimmed formula.now
-            (lines_of formula.now logs.now self.now.ids.items self.now.places.items) keep.now kept) }
+            (lines_of formula.now logs.now self.now.ids.items self.now.places) keep.now kept) }
     {
         let marks = self.needed(alloc, formula, logs, keep)?;
         let ids = new_ids(alloc, formula.clauses().len() as u64, &marks)?;
         let mut lines = Vec::new(alloc);
         for k in 0..self.places.len() {
-            self.push_if(marks[k], self.places[k], formula, logs, &ids, &mut lines)?;
+            self.push_if(
+                marks[k],
+                self.places.get(k),
+                formula,
+                logs,
+                &ids,
+                &mut lines,
+            )?;
         }
         Ok(Proof { lines })
     }
@@ -76,7 +83,7 @@ impl MergedOrder {
         place: Place,
         formula: &Formula,
         logs: &[Log],
-        ids: &[u64],
+        ids: &[u32],
         lines: &mut Vec<Line>,
     ) -> Result<(), NoMemory>
         requires place { IsPlace logs.now place }
@@ -104,10 +111,10 @@ impl MergedOrder {
         logs: &[Log],
         keep: &[Lit],
     ) -> Result<Vec<bool>, NoMemory>
-        requires ordered { IsOrdered formula.now logs.now self.now.ids.items self.now.places.items }
+        requires ordered { IsOrdered formula.now logs.now self.now.ids.items self.now.places }
         requires keep { HaveUnitEntries logs.now keep.now }
         ensures { IfOk result (λ marks. AreNeeded formula.now
-            (lines_of formula.now logs.now self.now.ids.items self.now.places.items) keep.now marks.items) }
+            (lines_of formula.now logs.now self.now.ids.items self.now.places) keep.now marks.items) }
     {
         let mut marks = self.roots(alloc, formula, logs, keep)?;
         let inputs = formula.clauses().len() as u64;
@@ -116,7 +123,7 @@ impl MergedOrder {
         while left > 0 {
             left -= 1;
             if marks[left] {
-                self.read_hints(formula, logs, self.places[left], &mut hints)?;
+                self.read_hints(formula, logs, self.places.get(left), &mut hints)?;
                 mark_hints(&mut marks, inputs, &hints);
             }
         }
@@ -131,15 +138,16 @@ impl MergedOrder {
         logs: &[Log],
         keep: &[Lit],
     ) -> Result<Vec<bool>, NoMemory>
-        requires ordered { IsOrdered formula.now logs.now self.now.ids.items self.now.places.items }
+        requires ordered { IsOrdered formula.now logs.now self.now.ids.items self.now.places }
         requires keep { HaveUnitEntries logs.now keep.now }
         ensures { IfOk result (λ marks. AreRoots keep.now
-            (lines_of formula.now logs.now self.now.ids.items self.now.places.items) marks.items) }
+            (lines_of formula.now logs.now self.now.ids.items self.now.places) marks.items) }
     {
         let mut wanted = Wanted::new(alloc, formula, keep)?;
         let mut marks = Vec::with_capacity(alloc, self.places.len())?;
         let mut lits = Vec::new(alloc);
-        for place in &self.places {
+        for k in 0..self.places.len() {
+            let place = self.places.get(k);
             lits.clear();
             logs[place.log].append_lits(place.entry, &mut lits)?;
             marks.push(wanted.take(&lits))?;

@@ -6,7 +6,7 @@ ghost use Rattle.cert_merge.specs.Merging.{entry_in, IsPlace, IsImport, GivesLin
 ghost use Rattle.cert_merge.specs.Steps.Taking.{ids_at, id_in, with_id, IsLeft, IsTaking, IsNext, IsFront, IsLeastClock, IsAllTaken, AreAllTaken, IsPushed, noted, lesser_of};
 
 use crate::ids::{EntryIds, renumber};
-use crate::place::Place;
+use crate::place::{Place, Places};
 use cnf_core::{Clause, Formula, Lit, NoMemory};
 use lrat_lines::{Ids, Line, Proof};
 use lrat_log::{Kind, Log};
@@ -16,7 +16,7 @@ use std::alloc::Global;
 #[derive(Drop)]
 pub struct MergedOrder {
     /// The entries that give lines, in order.
-    pub places: Vec<Place>,
+    pub places: Places,
     /// The ids of each log's entries.
     pub ids: Vec<EntryIds>,
 }
@@ -24,7 +24,7 @@ pub struct MergedOrder {
 /// What is taken of the logs so far.
 #[derive(Drop)]
 struct Merger {
-    places: Vec<Place>,
+    places: Places,
     ids: Vec<EntryIds>,
     /// For each literal, by its packed form, the id of its first unit, or 0.
     units: Vec<u64>,
@@ -35,8 +35,8 @@ impl MergedOrder {
     pub fn of(alloc: Global, formula: &Formula, logs: &[Log]) -> Result<MergedOrder, NoMemory>
         requires formulas { AreOf formula.now logs.now }
         requires imports { AreImportsShown logs.now }
-        ensures order { IfOk result (λ m. IsMergedOrder logs.now m.places.items) }
-        ensures ids { IfOk result (λ m. AreIds formula.now logs.now m.places.items (id_in m.ids.items)) }
+        ensures order { IfOk result (λ m. IsMergedOrder logs.now m.places) }
+        ensures ids { IfOk result (λ m. AreIds formula.now logs.now m.places (id_in m.ids.items)) }
         ensures lists { IfOk result (λ m. AreAllTaken logs.now m.ids.items) }
         ensures logs { OnOk result (All IsLog logs.now) }
     {
@@ -54,16 +54,16 @@ impl MergedOrder {
 
     /// The lines of all entries that give one.
     pub fn proof(&self, alloc: Global, formula: &Formula, logs: &[Log]) -> Result<Proof, NoMemory>
-        requires places { All (IsPlace logs.now) self.now.places.items }
+        requires places { All (IsPlace logs.now) self.now.places }
         requires formulas { AreOf formula.now logs.now }
         requires logs { All IsLog logs.now }
         requires lists { AreAllTaken logs.now self.now.ids.items }
         ensures { IfOk result (λ proof. proof
-            ≡ map (line_of formula.now logs.now (id_in self.now.ids.items)) self.now.places.items) }
+            ≡ map (line_of formula.now logs.now (id_in self.now.ids.items)) self.now.places) }
     {
         let mut lines = Vec::with_capacity(alloc, self.places.len())?;
-        for place in &self.places {
-            lines.push(self.line(alloc, formula, logs, *place)?)?;
+        for k in 0..self.places.len() {
+            lines.push(self.line(alloc, formula, logs, self.places.get(k))?)?;
         }
         Ok(Proof { lines })
     }
@@ -121,15 +121,17 @@ impl Merger {
     /// Nothing is taken yet.
     fn new(alloc: Global, formula: &Formula, logs: &[Log]) -> Result<Merger, NoMemory>
         requires { AreOf formula.now logs.now }
-        ensures { IfOk result (λ m. IsTaking formula.now logs.now m.ids.items m.units.items m.places.items) }
+        ensures { IfOk result (λ m. IsTaking formula.now logs.now m.ids.items m.units.items m.places) }
     {
         let mut ids = Vec::new(alloc);
+        let mut room = 0u64;
         for log in logs {
-            let _entries = log.len();
-            ids.push(EntryIds::new(alloc))?;
+            let entries = log.len();
+            ids.push(EntryIds::with_capacity(alloc, entries)?)?;
+            room = room.saturating_add(entries);
         }
         Ok(Merger {
-            places: Vec::new(alloc),
+            places: Places::with_capacity(alloc, room as usize)?,
             ids,
             units: vec![in alloc; 0u64; 2 * formula.vars() as usize + 2]?,
         })
@@ -137,11 +139,11 @@ impl Merger {
 
     /// Takes all entries of this clock, the least that is left.
     fn take_clock(&mut self, formula: &Formula, logs: &[Log], clock: u32) -> Result<(), NoMemory>
-        requires taking { IsTaking formula.now logs.now self.old.ids.items self.old.units.items self.old.places.items }
+        requires taking { IsTaking formula.now logs.now self.old.ids.items self.old.units.items self.old.places }
         requires imports { AreImportsShown logs.now }
         requires front { IsFront logs.now self.old.ids.items clock 0 }
         ensures taking { OnOk result
-            (IsTaking formula.now logs.now self.new.ids.items self.new.units.items self.new.places.items) }
+            (IsTaking formula.now logs.now self.new.ids.items self.new.units.items self.new.places) }
         ensures front { OnOk result (IsFront logs.now self.new.ids.items clock (length logs.now)) }
     {
         for g in 0..logs.len() {
@@ -159,11 +161,11 @@ impl Merger {
         clock: u32,
     ) -> Result<(), NoMemory>
         requires log { g < length logs.now }
-        requires taking { IsTaking formula.now logs.now self.old.ids.items self.old.units.items self.old.places.items }
+        requires taking { IsTaking formula.now logs.now self.old.ids.items self.old.units.items self.old.places }
         requires imports { AreImportsShown logs.now }
         requires front { IsFront logs.now self.old.ids.items clock g }
         ensures taking { OnOk result
-            (IsTaking formula.now logs.now self.new.ids.items self.new.units.items self.new.places.items) }
+            (IsTaking formula.now logs.now self.new.ids.items self.new.units.items self.new.places) }
         ensures front { OnOk result (IsFront logs.now self.new.ids.items clock (g + 1)) }
     {
         for entry in self.taken_of(g)..logs[g].len() {
@@ -185,11 +187,11 @@ impl Merger {
 
     /// Takes an entry.
     fn take(&mut self, formula: &Formula, logs: &[Log], place: Place) -> Result<(), NoMemory>
-        requires taking { IsTaking formula.now logs.now self.old.ids.items self.old.units.items self.old.places.items }
+        requires taking { IsTaking formula.now logs.now self.old.ids.items self.old.units.items self.old.places }
         requires imports { AreImportsShown logs.now }
         requires next { IsNext logs.now self.old.ids.items place }
         ensures taking { OnOk result
-            (IsTaking formula.now logs.now self.new.ids.items self.new.units.items self.new.places.items) }
+            (IsTaking formula.now logs.now self.new.ids.items self.new.units.items self.new.places) }
         ensures ids { OnOk result (IsPushed self.old.ids.items self.new.ids.items place) }
     {
         match logs[place.log].kind(place.entry) {
@@ -201,12 +203,12 @@ impl Merger {
 
     /// Takes an import: it has the id of the first unit of its literal.
     fn take_import(&mut self, formula: &Formula, logs: &[Log], place: Place) -> Result<(), NoMemory>
-        requires taking { IsTaking formula.now logs.now self.old.ids.items self.old.units.items self.old.places.items }
+        requires taking { IsTaking formula.now logs.now self.old.ids.items self.old.units.items self.old.places }
         requires imports { AreImportsShown logs.now }
         requires next { IsNext logs.now self.old.ids.items place }
         requires kind { IsImport logs.now place }
         ensures taking { OnOk result
-            (IsTaking formula.now logs.now self.new.ids.items self.new.units.items self.new.places.items) }
+            (IsTaking formula.now logs.now self.new.ids.items self.new.units.items self.new.places) }
         ensures ids { OnOk result (IsPushed self.old.ids.items self.new.ids.items place) }
     {
         let lit = logs[place.log].lit(place.entry, 0);
@@ -216,11 +218,11 @@ impl Merger {
 
     /// Takes a unit.
     fn take_unit(&mut self, formula: &Formula, logs: &[Log], place: Place) -> Result<(), NoMemory>
-        requires taking { IsTaking formula.now logs.now self.old.ids.items self.old.units.items self.old.places.items }
+        requires taking { IsTaking formula.now logs.now self.old.ids.items self.old.units.items self.old.places }
         requires next { IsNext logs.now self.old.ids.items place }
         requires kind { (entry_in logs.now place).kind ≡ UnitKind }
         ensures taking { OnOk result
-            (IsTaking formula.now logs.now self.new.ids.items self.new.units.items self.new.places.items) }
+            (IsTaking formula.now logs.now self.new.ids.items self.new.units.items self.new.places) }
         ensures ids { OnOk result (IsPushed self.old.ids.items self.new.ids.items place) }
     {
         let lit = logs[place.log].lit(place.entry, 0);
@@ -232,12 +234,12 @@ impl Merger {
 
     /// Takes a clause that is neither a unit's nor an import's.
     fn take_clause(&mut self, formula: &Formula, logs: &[Log], place: Place) -> Result<(), NoMemory>
-        requires taking { IsTaking formula.now logs.now self.old.ids.items self.old.units.items self.old.places.items }
+        requires taking { IsTaking formula.now logs.now self.old.ids.items self.old.units.items self.old.places }
         requires next { IsNext logs.now self.old.ids.items place }
         requires line { GivesLine logs.now place }
         requires kind { (entry_in logs.now place).kind ≡ UnitKind → ⊥ }
         ensures taking { OnOk result
-            (IsTaking formula.now logs.now self.new.ids.items self.new.units.items self.new.places.items) }
+            (IsTaking formula.now logs.now self.new.ids.items self.new.units.items self.new.places) }
         ensures ids { OnOk result (IsPushed self.old.ids.items self.new.ids.items place) }
     {
         let id = (formula.clauses().len() + 1 + self.places.len()) as u64;
@@ -248,7 +250,7 @@ impl Merger {
     fn push_line(&mut self, place: Place, id: u64) -> Result<(), NoMemory>
         requires { place.log < length self.old.ids.items }
         ensures ids { OnOk result (self.new.ids.items ≡ with_id self.old.ids.items place.log id) }
-        ensures places { OnOk result (self.new.places.items ≡ self.old.places.items ++ place ∷ []) }
+        ensures places { OnOk result (self.new.places ≡ self.old.places ++ place ∷ []) }
         ensures units { self.new.units.items ≡ self.old.units.items }
     {
         self.places.push(place)?;
@@ -259,7 +261,7 @@ impl Merger {
     fn push_id(&mut self, place: Place, id: u64) -> Result<(), NoMemory>
         requires { place.log < length self.old.ids.items }
         ensures ids { OnOk result (self.new.ids.items ≡ with_id self.old.ids.items place.log id) }
-        ensures places { self.new.places.items ≡ self.old.places.items }
+        ensures places { self.new.places ≡ self.old.places }
         ensures units { self.new.units.items ≡ self.old.units.items }
     {
         self.ids[place.log].push(id)
@@ -269,7 +271,7 @@ impl Merger {
     fn note_unit(&mut self, lit: Lit, id: u64)
         requires { code_of lit < length self.old.units.items }
         ensures ids { self.new.ids.items ≡ self.old.ids.items }
-        ensures places { self.new.places.items ≡ self.old.places.items }
+        ensures places { self.new.places ≡ self.old.places }
         ensures units { self.new.units.items ≡ noted self.old.units.items lit id }
     {
         let code = lit.code() as usize;

@@ -86,7 +86,7 @@ fn pick(
     lines: Vec<Line>,
     marks: &[bool],
     inputs: u64,
-    ids: &[u64],
+    ids: &[u32],
 ) -> Result<Vec<Line>, NoMemory>
     requires count { length marks.now ≡ length lines.items }
     requires ids { All (AreIdsWithin (inputs + 1 + length ids.now)) lines.items }
@@ -106,7 +106,7 @@ fn push_if(
     mark: bool,
     line: Line,
     inputs: u64,
-    ids: &[u64],
+    ids: &[u32],
     kept: &mut Vec<Line>,
 ) -> Result<(), NoMemory>
     requires { AreIdsWithin (inputs + 1 + length ids.now) line }
@@ -120,7 +120,7 @@ fn push_if(
 }
 
 /// The line with new ids.
-pub fn moved(line: Line, inputs: u64, ids: &[u64]) -> Line
+pub fn moved(line: Line, inputs: u64, ids: &[u32]) -> Line
     requires { AreIdsWithin (inputs + 1 + length ids.now) line }
     ensures { result ≡ renumbered (listed_id inputs ids.now) line }
 {
@@ -138,7 +138,7 @@ pub fn moved(line: Line, inputs: u64, ids: &[u64]) -> Line
 }
 
 /// The new ids of several.
-fn moved_ids(old: Ids, inputs: u64, ids: &[u64]) -> Ids
+fn moved_ids(old: Ids, inputs: u64, ids: &[u32]) -> Ids
     requires { All (λ h. h < inputs + 1 + length ids.now) old }
     ensures { result ≡ map (listed_id inputs ids.now) old }
 {

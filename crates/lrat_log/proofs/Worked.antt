@@ -1,19 +1,19 @@
 -- The definitions compute at the example.
 use Rattle.std.proofs.Common.{◌≡◌, ℕ, ◌<◌, Bool, true, false, List, [], ◌∷◌, length, Contains, refl, sym, ap, ◌∙◌, subst, inl, inr, ⊎_elim}
-use Rattle.std.proofs.Common.{zero, suc, ◌*◌, ◌-◌, ◌^◌, ◌≤◌, take, drop, take-append-drop, arith, lit<}
+use Rattle.std.proofs.Common.{zero, suc, ◌≤◌, take, drop, replicate, take-append-drop, arith, lit<}
 use Rattle.std.specs.Prelude.{All, Some, nat_lt, nat_le, ◌&&◌}
 use Rattle.std.specs.List.{list_any, list_all}
 use Rattle.std.proofs.lemmas.Bool.{both_ways, and_parts, ltb-true, leb-true}
 use Rattle.std.proofs.Math.Nat.{pow-suc, one-le-pow}
 use Rattle.std.proofs.lemmas.List.{drop_all}
-use Rattle.std.proofs.lemmas.List.Elements.{All-weaker, Contains-append_right}
+use Rattle.std.proofs.lemmas.List.Elements.{All-weaker, All-replicate, Contains-append_right}
 use Rattle.std.proofs.lemmas.List.Sums.{AllPass-from_list_all}
 use Rattle.cnf_core.specs.Literals.{Literal, Literals, negated, IsWithin, AreWithin}
 use Rattle.cnf_core.specs.Formulas.{entails, models, assignments}
 use Rattle.cnf_core.proofs.Lists.{Contains-head, Contains-tail, Contains-cons_cases, Contains-nil, list_any_of_member, list_all_of_members}
 use Rattle.lrat_lines.specs.Examples.{positive, negative}
 use Rattle.lrat_lines.specs.Sets.{has, has_complements}
-use Rattle.lrat_lines.specs.Propagation.{Known, open_literals}
+use Rattle.lrat_lines.specs.Propagation.{Known, open_literals, IsRup}
 use Rattle.lrat_lines.specs.Tight.{IsTight, IsTightFrom, AddsAt, StandsIn}
 use Rattle.lrat_lines.proofs.LiteralSets.{has_of_Contains}
 use Rattle.lrat_lines.specs.Sets.{IsSubset}
@@ -21,7 +21,10 @@ use Rattle.lrat_log.specs.Entries.{Recorded, empty_log, known_after, with_new_qu
 use Rattle.cnf_core.specs.Epochs.{epoch_start}
 use Rattle.lrat_log.specs.Fresh.{HasNoComplements, learnt_in, IsPeer, IsFresh}
 use Rattle.lrat_lines.specs.Tidy.{IsHint}
-use Rattle.lrat_log.specs.Examples.{refuted, by_first_two, only_one, not_two_or_three, with_core, EpochsAreWorked, LogIsWorked}
+use Rattle.lrat_log.specs.Kept.{IsShown}
+use Rattle.lrat_log.specs.Packed.{packed_number}
+use Rattle.lrat_log.specs.Examples.{refuted, by_first_two, only_one, not_two_or_three, with_core, EpochsAreWorked, BytesAreWorked}
+use Rattle.lrat_log.specs.Examples.{LogIsWorked}
 
 -- whether each literal of the first clause stands in the second
 abbrev is_subset : Literals → Literals → Bool
@@ -201,6 +204,29 @@ worked_epochs = record {
   at_second = no_peer;
 }
 
+pub worked_bytes : BytesAreWorked
+unfolding packed_number
+worked_bytes = record { first = refl; second = refl; one_byte = refl; two_bytes = refl; most = refl }
+
+-- the first clause, shown by itself, whatever hints follow
+pub large_shown : (hints rest : List ℕ) → hints ≡ 1 ∷ rest → All (λ h. h ≡ 1) hints
+    → IsShown refuted [] hints (positive 1 ∷ positive 2 ∷ [])
+large_shown hints rest is ones = record {
+  within = within_by 3 (positive 1 ∷ positive 2 ∷ []) refl;
+  hints_before = All-weaker (λ (h : ℕ). h ≡ 1) (IsHint 5)
+      (λ (h : ℕ) (one : h ≡ 1). record { low = omega arith; high = omega arith }) hints ones;
+  proved = subst (λ (hs : List ℕ). IsRup (known_after refuted []) hs (positive 1 ∷ positive 2 ∷ [])) (sym is) refl;
+}
+
+-- so many hints to the first clause
+abbrev pub ones : ℕ → List ℕ
+ones count = replicate count 1
+
+pub ones_shown : (count : ℕ) → 0 < count → IsShown refuted [] (ones count) (positive 1 ∷ positive 2 ∷ [])
+ones_shown zero some = absurd (omega arith)
+ones_shown (suc more) some =
+    large_shown (ones (suc more)) (ones more) refl (All-replicate (λ (h : ℕ). h ≡ 1) (suc more) 1 refl)
+
 pub worked : LogIsWorked
 unfolding entails models assignments
 worked = record {
@@ -223,6 +249,8 @@ worked = record {
   imported = refl;
   imported_late = refl;
   empty = record { within = within_by 3 [] refl; hints_before = hints_by 11 (6 ∷ 3 ∷ 4 ∷ []) refl; proved = refl };
+  first_unit = record { within = within_by 2 only_one refl; hints_before = hints_by 3 by_first_two refl; proved = refl };
+  second_unit = record { within = within_by 2 only_one refl; hints_before = hints_by 4 (3 ∷ []) refl; proved = refl };
   conflict_itself = λ fresh.
       fresh.no_input (positive 1 ∷ positive 2 ∷ []) first_input (λ l there. there);
   learnt_before = λ fresh. fresh.no_learnt only_one only_one_before (λ l there. there);

@@ -1,6 +1,6 @@
 -- The log of a search: the clauses that it wrote, each with the hints that show it.
-use Rattle.std.specs.Prelude.{◌≡◌, ℕ, ◌+◌, ◌-◌, ◌==◌, Bool, true, false, if◌then◌else◌, List, [], ◌∷◌, ◌++◌, length, map, count_by, None}
-use Rattle.std.specs.Prelude.{slice_get, slice_index, slice_index_or, nat_lt, ⊤}
+use Rattle.std.specs.Prelude.{◌≡◌, ℕ, ◌+◌, ◌==◌, Bool, true, false, if◌then◌else◌, List, [], ◌∷◌, ◌++◌, length, map, count_by}
+use Rattle.std.specs.Prelude.{slice_index, slice_index_or, nat_lt, ⊤}
 use Rattle.std.specs.List.{list_any}
 use Rattle.cnf_core.specs.Literals.{Literal, Literals}
 use Rattle.cnf_core.specs.Formulas.{Cnf}

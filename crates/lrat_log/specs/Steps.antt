@@ -1,2 +1,4 @@
 pub mod Counted
-pub mod Layout
+pub mod Heads
+pub mod Paged
+pub mod Unpacked

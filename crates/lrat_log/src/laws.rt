@@ -1,6 +1,6 @@
 //! What holds of every log by the definitions alone. The functions do nothing: each one's contract is the
 //! law.
-ghost use Rattle.lrat_log.specs.Examples.{EpochsAreWorked, LogIsWorked};
+ghost use Rattle.lrat_log.specs.Examples.{EpochsAreWorked, BytesAreWorked, LogIsWorked};
 ghost use Rattle.lrat_log.specs.Laws.{LoggedIsEntailed, FreshClausesAreFew, LearningQueriesAreFew, NoLogIsFull};
 
 /// Each clause of a log holds in every model of its formula.
@@ -33,4 +33,9 @@ pub fn worked_epochs()
 /// The definitions of a log, worked on the formula of the clauses `1 2`, `1 -2`, `-1 3` and `-1 -3`.
 pub fn worked_log()
     ensures { LogIsWorked }
+{}
+
+/// The bytes of two entries, and of larger numbers, worked.
+pub fn worked_bytes()
+    ensures { BytesAreWorked }
 {}

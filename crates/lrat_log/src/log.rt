@@ -1,34 +1,24 @@
-ghost use Rattle.std.specs.Prelude.{◌≡◌, ◌+◌, ◌<◌, ◌≤◌, [], ◌∷◌, ◌++◌, if◌then◌else◌, length, All, IfOk, OnOk, OnErr, slice_index_or};
-ghost use Rattle.std.specs.Vec.{vec_len};
+ghost use Rattle.std.specs.Prelude.{◌≡◌, ◌+◌, ◌<◌, ◌≤◌, [], ◌∷◌, ◌++◌, if◌then◌else◌, length, drop, All, IfOk, OnOk, OnErr, slice_index_or};
 ghost use Rattle.cnf_core.specs.Literals.{AreWithin};
 ghost use Rattle.cnf_core.specs.Formulas.{Entails};
 ghost use Rattle.lrat_lines.specs.Tight.{IsTight};
 ghost use Rattle.lrat_log.specs.Entries.{empty_log, entry_at, literal_of, hint_of, is_learnt, learnt_count, id_after, known_after};
 ghost use Rattle.lrat_log.specs.Entries.{next_entry, with_entry, with_shown, with_import, with_new_query};
 ghost use Rattle.lrat_log.specs.Fresh.{IsFresh};
+ghost use Rattle.lrat_log.specs.Packed.{hint_numbers, entry_numbers, entry_before, id_at, entry_bytes};
+ghost use Rattle.lrat_log.specs.Steps.Unpacked.{values, IsPackable};
 ghost use Rattle.lrat_log.specs.Kept.{IsShown, IsNext, IsLog};
 
 use crate::Kind;
+use crate::numbers::{number_at, skip};
+use crate::packing::{Head, append_hints, append_lits, kind_of, pack};
+use crate::store::Store;
 use cnf_core::{Formula, Lit, NoMemory};
 use std::alloc::Global;
 use std::marker::Model;
 
-/// A part of a list: from one place up to another.
-#[derive(Clone, Copy, Debug)]
-struct Span {
-    start: usize,
-    end: usize,
-}
-
-/// What a log keeps of an entry beside its literals and hints, and where these lie.
-#[derive(Clone, Copy, Debug)]
-struct Line {
-    lits: Span,
-    hints: Span,
-    query: u64,
-    clock: u32,
-    kind: Kind,
-}
+/// How many numbers of an entry stand before its literals: its kind, its query number and its clock.
+const HEAD_NUMBERS: u64 = 3;
 
 /// The clauses that a search over a formula derived, in order, each with the hints that show it.
 ///
@@ -37,26 +27,28 @@ struct Line {
 #[derive(Debug, Drop)]
 pub struct Log<'f> {
     formula: &'f Formula,
-    lits: Vec<Lit>,
-    hints: Vec<u64>,
-    lines: Vec<Line>,
+    /// The packed bytes of each entry.
+    store: Store,
+    /// The bytes of the entry that is being written.
+    buffer: Vec<u8>,
     query: u64,
     query_used: bool,
+    /// The query number of the last entry.
+    last_query: u64,
     learnt: u64,
     clock: u32,
 }
 
 impl<'f> Model for Log<'f> {
     ghost use Rattle.lrat_log.specs.Entries.{Recorded};
-    ghost use Rattle.lrat_log.specs.Steps.Layout.{laid_log, IsKept};
+    ghost use Rattle.lrat_log.specs.Steps.Unpacked.{unpacked_log, IsKept};
 
     ghost Value = { Recorded };
 
-    ghost view = { λ l. laid_log l.formula.now l.lits.items l.hints.items l.lines.items l.query l.clock };
+    ghost view = { λ l. unpacked_log l.formula.now l.store l.query l.clock };
 
-    ghost invariant = { λ l. IsKept
-        (laid_log l.formula.now l.lits.items l.hints.items l.lines.items l.query l.clock)
-        l.lits.items l.hints.items l.lines.items l.query_used l.learnt };
+    ghost invariant = { λ l. IsKept (unpacked_log l.formula.now l.store l.query l.clock) l.store l.query_used l.learnt
+        l.last_query };
 }
 
 /// 1 for a learnt clause, and 0 for the others.
@@ -76,11 +68,11 @@ impl<'f> Log<'f> {
     {
         Log {
             formula,
-            lits: Vec::new(alloc),
-            hints: Vec::new(alloc),
-            lines: Vec::new(alloc),
+            store: Store::new(alloc),
+            buffer: Vec::new(alloc),
             query: 0,
             query_used: false,
+            last_query: 0,
             learnt: 0,
             clock: 0,
         }
@@ -92,6 +84,7 @@ impl<'f> Log<'f> {
         ensures unused { All (λ e. e.query < self.new.query) self.new.entries }
         ensures few { self.new.query ≤ length self.new.entries }
     {
+        let _entries = self.store.len();
         if self.query_used {
             self.query += 1;
             self.query_used = false;
@@ -182,31 +175,19 @@ impl<'f> Log<'f> {
         ensures ok { OnOk result (self.new ≡ with_entry self.old kind lits.now hints.now clock) }
         ensures err { OnErr result (self.new ≡ self.old) }
     {
-        self.lines.reserve(1)?;
-        self.hints.reserve(hints.len())?;
-        let lits_start = self.lits.len();
-        let hints_start = self.hints.len();
-        self.lits.extend_from_slice(lits)?;
-        self.hints.extend_from_slice(hints)?;
-        let lits = Span {
-            start: lits_start,
-            end: self.lits.len(),
-        };
-        let hints = Span {
-            start: hints_start,
-            end: self.hints.len(),
-        };
-        self.lines.push_reserved(Line {
-            lits,
-            hints,
-            query: self.query,
-            clock,
+        let id = self.formula.clauses().len() as u64 + 1 + self.store.len();
+        let head = Head {
             kind,
-        });
+            query_step: self.query - self.last_query,
+            clock_step: clock - self.clock,
+        };
+        let hints_start = pack(&mut self.buffer, head, lits, id, hints)?;
+        self.store.push(&self.buffer, hints_start, clock)?;
         self.query_used = true;
+        self.last_query = self.query;
         self.learnt += learnt_by(kind);
         self.clock = clock;
-        Ok((self.formula.clauses().len() + self.lines.len()) as u64)
+        Ok(id)
     }
 
     /// How many entries there are.
@@ -214,7 +195,7 @@ impl<'f> Log<'f> {
         ensures value { result ≡ length self.now.entries }
         ensures log { IsLog self.now }
     {
-        self.lines.len() as u64
+        self.store.len()
     }
 
     /// What an entry is for, by its place from 0.
@@ -222,7 +203,7 @@ impl<'f> Log<'f> {
         requires { i < length self.now.entries }
         ensures { result ≡ (entry_at self.now i).kind }
     {
-        self.lines[i as usize].kind
+        kind_of(number_at(self.packed(i), 0).value)
     }
 
     /// How many literals an entry has.
@@ -230,8 +211,8 @@ impl<'f> Log<'f> {
         requires { i < length self.now.entries }
         ensures { result ≡ length (entry_at self.now i).literals }
     {
-        let lits = self.lines[i as usize].lits;
-        (lits.end - lits.start) as u64
+        let bytes = self.packed(i);
+        number_at(bytes, skip(bytes, 0, HEAD_NUMBERS)).value
     }
 
     /// A literal of an entry, by its place in the entry from 0.
@@ -240,7 +221,10 @@ impl<'f> Log<'f> {
         requires within { k < length (entry_at self.now i).literals }
         ensures { result ≡ literal_of self.now i k }
     {
-        self.lits[self.lines[i as usize].lits.start + k as usize]
+        let bytes = self.packed(i);
+        let first = skip(bytes, 0, HEAD_NUMBERS + 1);
+        let place = skip(bytes, first, k);
+        Lit::from_code(number_at(bytes, place).value as u32)
     }
 
     /// How many hints an entry has.
@@ -248,8 +232,7 @@ impl<'f> Log<'f> {
         requires { i < length self.now.entries }
         ensures { result ≡ length (entry_at self.now i).hints }
     {
-        let hints = self.lines[i as usize].hints;
-        (hints.end - hints.start) as u64
+        number_at(self.packed(i), self.hints_at(i)).value
     }
 
     /// A hint of an entry, by its place in the entry from 0.
@@ -258,7 +241,10 @@ impl<'f> Log<'f> {
         requires within { k < length (entry_at self.now i).hints }
         ensures { result ≡ hint_of self.now i k }
     {
-        self.hints[self.lines[i as usize].hints.start + k as usize]
+        let bytes = self.packed(i);
+        let first = skip(bytes, self.hints_at(i), 1);
+        let place = skip(bytes, first, k);
+        self.id_of(i) - number_at(bytes, place).value
     }
 
     /// Appends the literals of an entry to a list, in one pass. Without memory for them the list stays as it was.
@@ -267,9 +253,8 @@ impl<'f> Log<'f> {
         ensures ok { OnOk result (lits.new.items ≡ lits.old.items ++ (entry_at self.now i).literals) }
         ensures err { OnErr result (lits.new.items ≡ lits.old.items) }
     {
-        let part = self.lines[i as usize].lits;
-        lits.extend_from_slice(&self.lits[part.start..part.end])?;
-        Ok(())
+        let bytes = self.packed(i);
+        append_lits(bytes, skip(bytes, 0, HEAD_NUMBERS), lits)
     }
 
     /// Appends the hints of an entry to a list, in one pass. Without memory for them the list stays as it was.
@@ -278,9 +263,42 @@ impl<'f> Log<'f> {
         ensures ok { OnOk result (hints.new.items ≡ hints.old.items ++ (entry_at self.now i).hints) }
         ensures err { OnErr result (hints.new.items ≡ hints.old.items) }
     {
-        let part = self.lines[i as usize].hints;
-        hints.extend_from_slice(&self.hints[part.start..part.end])?;
-        Ok(())
+        append_hints(self.packed(i), self.hints_at(i), self.id_of(i), hints)
+    }
+
+    /// The packed bytes of an entry. It takes no memory.
+    pub fn entry_bytes(&self, i: u64) -> &[u8]
+        requires { i < length self.now.entries }
+        ensures { result.now ≡ entry_bytes self.now i }
+    {
+        self.packed(i)
+    }
+
+    /// The packed bytes of an entry, which give it back.
+    fn packed(&self, i: u64) -> &[u8]
+        requires { i < length self.now.entries }
+        ensures bytes { result.now ≡ entry_bytes self.now i }
+        ensures numbers { values result.now ≡ entry_numbers (id_at self.now i) (entry_before self.now i) (entry_at self.now i) }
+        ensures packable { IsPackable (id_at self.now i) (entry_before self.now i) (entry_at self.now i) }
+    {
+        self.store.bytes(i)
+    }
+
+    /// Where the hints of an entry begin among its bytes.
+    fn hints_at(&self, i: u64) -> usize
+        requires { i < length self.now.entries }
+        ensures { values (drop result (entry_bytes self.now i)) ≡ hint_numbers (id_at self.now i) (entry_at self.now i).hints }
+    {
+        self.store.hints_at(i)
+    }
+
+    /// The id of an entry.
+    fn id_of(&self, i: u64) -> u64
+        requires { i < length self.now.entries }
+        ensures { result ≡ id_at self.now i }
+    {
+        let _entries = self.store.len();
+        self.formula.clauses().len() as u64 + 1 + i
     }
 
     /// The clock that an entry was written at.
@@ -288,7 +306,7 @@ impl<'f> Log<'f> {
         requires { i < length self.now.entries }
         ensures { result ≡ (entry_at self.now i).clock }
     {
-        self.lines[i as usize].clock
+        self.store.clock(i)
     }
 
     /// The clock now: the greatest stamp of an import, or 0.

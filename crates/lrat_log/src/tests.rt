@@ -1,5 +1,6 @@
-ghost use Rattle.std.specs.Prelude.{◌≡◌, [], ◌∷◌, IfOk, OnOk};
+ghost use Rattle.std.specs.Prelude.{◌≡◌, ◌<◌, [], ◌∷◌, IfOk, OnOk};
 ghost use Rattle.cnf_core.specs.Formulas.{with_clause};
+ghost use Rattle.lrat_lines.specs.Examples.{implied_one};
 ghost use Rattle.lrat_log.specs.Entries.{empty_log};
 ghost use Rattle.lrat_log.specs.Examples.{refuted, with_learnt_again, with_empty};
 
@@ -22,6 +23,16 @@ fn push(alloc: Global, formula: &mut Formula, first: Lit, second: Lit) -> Result
     }
     formula.push(Clause { lits })?;
     Ok(())
+}
+
+/// The formula of the clauses `1 2` and `1 -2`.
+fn two_clauses(alloc: Global) -> Result<Formula, Fail>
+    ensures { IfOk result (λ f. f ≡ implied_one) }
+{
+    let mut formula = Formula::new(alloc, 2);
+    push(alloc, &mut formula, Lit::new(1, true), Lit::new(2, true))?;
+    push(alloc, &mut formula, Lit::new(1, true), Lit::new(2, false))?;
+    Ok(formula)
 }
 
 /// The formula of the clauses `1 2`, `1 -2`, `-1 3` and `-1 -3`, which has no model.
@@ -60,6 +71,53 @@ fn end(log: &mut Log) -> Result<[u64; 3], Fail>
     let second = log.import(Lit::new(2, true), 4)?;
     let empty = log.empty(&[6, 3, 4])?;
     Ok([first, second, empty])
+}
+
+/// Shows the literal 1 in two queries.
+fn show_twice(log: &mut Log) -> Result<(), Fail>
+    requires { log.old ≡ empty_log implied_one }
+{
+    log.begin_query();
+    log.unit(Lit::new(1, true), &[1, 2])?;
+    log.begin_query();
+    log.unit(Lit::new(1, true), &[3])?;
+    Ok(())
+}
+
+/// Writes a clause that has so many hints to itself.
+fn write_large(alloc: Global, log: &mut Log, count: usize) -> Result<(), Fail>
+    requires log { log.old ≡ empty_log refuted }
+    requires some { 0 < count }
+{
+    let hints = vec![in alloc; 1u64; count]?;
+    log.core(&[Lit::new(1, true), Lit::new(2, true)], &hints)?;
+    Ok(())
+}
+
+/// Of each entry how many bytes and hints it has, and the sum of its hints.
+fn sizes(alloc: Global, log: &Log) -> Result<Vec<u64>, Fail> {
+    let mut numbers = Vec::new(alloc);
+    for i in 0..log.len() {
+        let mut hints = Vec::new(alloc);
+        log.append_hints(i, &mut hints)?;
+        numbers.push(log.entry_bytes(i).len() as u64)?;
+        numbers.push(log.hint_count(i))?;
+        numbers.push(
+            hints
+                .iter()
+                .fold(0u64, |sum, hint| sum.saturating_add(*hint)),
+        )?;
+    }
+    Ok(numbers)
+}
+
+/// The bytes of all entries, one after another.
+fn all_bytes(alloc: Global, log: &Log) -> Result<Vec<u8>, Fail> {
+    let mut bytes = Vec::new(alloc);
+    for i in 0..log.len() {
+        bytes.extend_from_slice(log.entry_bytes(i))?;
+    }
+    Ok(bytes)
 }
 
 fn kind_code(kind: Kind) -> i32 {
@@ -111,5 +169,26 @@ fn entries_read_back_as_they_were_written(rt: HostRuntime) -> Result<(), Fail> {
         4, 7, 0, 6, 3, 4, 0, // no model
     ];
     assert_eq!(rt; numbers.as_slice(), expected.as_slice());
+    Ok(())
+}
+
+#[test]
+fn an_entry_has_its_packed_bytes(rt: HostRuntime) -> Result<(), Fail> {
+    let formula = two_clauses(rt.alloc())?;
+    let mut log = Log::new(rt.alloc(), &formula);
+    show_twice(&mut log)?;
+    let bytes = all_bytes(rt.alloc(), &log)?;
+    let expected = [1, 0, 0, 1, 2, 2, 2, 1, 1, 1, 0, 1, 2, 1, 1];
+    assert_eq!(rt; bytes.as_slice(), expected.as_slice());
+    Ok(())
+}
+
+#[test]
+fn an_entry_may_be_larger_than_a_page(rt: HostRuntime) -> Result<(), Fail> {
+    let formula = example(rt.alloc())?;
+    let mut log = Log::new(rt.alloc(), &formula);
+    write_large(rt.alloc(), &mut log, 70_000)?;
+    let numbers = sizes(rt.alloc(), &log)?;
+    assert_eq!(rt; numbers.as_slice(), [70_009, 70_000, 70_000].as_slice());
     Ok(())
 }

@@ -10,11 +10,11 @@ use Rattle.cert_merge.proofs.MergedLines.{merged_lines, merged_has_lines, merged
 use Rattle.cert_merge.proofs.merged.merge.Goals as goal
 
 abbrev IsIt : goal.After-drop-order-2 → List Line → Type 0
-IsIt c proof = proof ≡ map (line_of c.args.formula.now c.args.logs.now (id_in c.in_ok-order.order.ids.items)) c.in_ok-order.order.places.items
+IsIt c proof = proof ≡ map (line_of c.args.formula.now c.args.logs.now (id_in c.in_ok-order.order.ids.items)) c.in_ok-order.order.places
 
 merged : (c : goal.After-drop-order-2) (proof : List Line) → IsIt c proof → IsMerged c.args.formula.now c.args.logs.now proof
 merged c proof is = record {
-  order = c.in_ok-order.order.places.items;
+  order = c.in_ok-order.order.places;
   id_of = id_in c.in_ok-order.order.ids.items;
   is_order = c.in_ok-order.ensures.order;
   are_ids = c.in_ok-order.ensures.ids;

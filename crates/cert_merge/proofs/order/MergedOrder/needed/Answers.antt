@@ -11,21 +11,21 @@ use Rattle.cert_merge.proofs.order.MergedOrder.needed.Goals as goal
 
 pub mark_hints-requires : goal.mark_hints-requires
 mark_hints-requires c =
-    hints_low c.args.formula.now c.args.logs.now c.args.self.now.ids.items c.args.self.now.places.items (c.loop-left.left - 1)
-    c.index-then-index.result.now c.deref.result.now (length c.clauses.result.now) (length c.deref_mut.result.now)
-    c.requires.ordered (omega (arith, c.loop-left.invariant.low)) c.index-then-index.ensures
+    hints_low c.args.formula.now c.args.logs.now c.args.self.now.ids.items c.args.self.now.places (c.loop-left.left - 1)
+    c.get.result c.deref.result.now (length c.clauses.result.now) (length c.deref_mut.result.now)
+    c.requires.ordered (omega (arith, c.loop-left.invariant.low)) c.get.ensures
     (c.deref.ensures.value ∙ c.in_ok-read_hints.ensures) (ap length c.clauses.ensures.value)
     (ap length c.deref_mut.ensures.value ∙ c.loop-left.invariant.needed.count
-    ∙ lines_count c.args.formula.now c.args.logs.now c.args.self.now.ids.items c.args.self.now.places.items)
+    ∙ lines_count c.args.formula.now c.args.logs.now c.args.self.now.ids.items c.args.self.now.places)
 
 pub loop-left-preserved-then-index : goal.loop-left-preserved-then-index
 loop-left-preserved-then-index c =
     let F = c.args.formula.now in
     let logs = c.args.logs.now in
     let ids = c.args.self.now.ids.items in
-    let order = c.args.self.now.places.items in
+    let order = c.args.self.now.places in
     let left = c.loop-left.left in
-    let p : Place = c.index-then-index.result.now in
+    let p : Place = c.get.result in
     let size : length (lines_of F logs ids order) ≡ length order = lines_count F logs ids order in
     let within : left - 1 < length order = omega (arith, c.loop-left.invariant.low) in
     record {
@@ -39,18 +39,18 @@ loop-left-preserved-then-index c =
           (sym (get_or_read c.loop-left.marks.items (left - 1) c.index.result.now (omega (arith, c.loop-left.invariant.needed.count)) c.index.ensures false)
           ∙ c.if-index.true)
           c.deref_mut.ensures.value (ap length c.clauses.ensures.value) (c.deref.ensures.value ∙ c.in_ok-read_hints.ensures)
-          (line_of_place F logs ids order (left - 1) p within c.index-then-index.ensures) c.mark_hints.ensures);
+          (line_of_place F logs ids order (left - 1) p within c.get.ensures) c.mark_hints.ensures);
       low = omega (arith, c.loop-left.invariant.low);
     }
 
 pub loop-left-preserved : goal.loop-left-preserved
 loop-left-preserved c =
-    let size : length (lines_of c.args.formula.now c.args.logs.now c.args.self.now.ids.items c.args.self.now.places.items)
-    ≡ length c.args.self.now.places.items =
-    length-map c.args.self.now.places.items (line_of c.args.formula.now c.args.logs.now (id_in c.args.self.now.ids.items)) in
+    let size : length (lines_of c.args.formula.now c.args.logs.now c.args.self.now.ids.items c.args.self.now.places)
+    ≡ length c.args.self.now.places =
+    length-map c.args.self.now.places (line_of c.args.formula.now c.args.logs.now (id_in c.args.self.now.ids.items)) in
     record {
       needed = needed_past c.args.formula.now
-          (lines_of c.args.formula.now c.args.logs.now c.args.self.now.ids.items c.args.self.now.places.items) c.args.keep.now
+          (lines_of c.args.formula.now c.args.logs.now c.args.self.now.ids.items c.args.self.now.places) c.args.keep.now
           c.loop-left.marks.items c.loop-left.left (omega arith)
           (omega (arith, c.loop-left.invariant.low)) c.loop-left.invariant.needed
           (sym (get_or_read c.loop-left.marks.items (c.loop-left.left - 1) c.index.result.now

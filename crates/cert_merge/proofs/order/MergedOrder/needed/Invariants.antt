@@ -5,8 +5,8 @@ use Rattle.cert_merge.proofs.order.MergedOrder.needed.Given as goal
 
 abbrev pub invariant-loop-left : goal.invariant-loop-left
 invariant-loop-left l = record {
-  needed : AreNeededFrom l.formula (lines_of l.formula l.logs l.self.ids.items l.self.places.items) l.keep l.left l.marks.items;
-  low : l.left ≤ length l.self.places.items;
+  needed : AreNeededFrom l.formula (lines_of l.formula l.logs l.self.ids.items l.self.places) l.keep l.left l.marks.items;
+  low : l.left ≤ length l.self.places;
 }
 
 abbrev pub decreases-loop-left : goal.decreases-loop-left

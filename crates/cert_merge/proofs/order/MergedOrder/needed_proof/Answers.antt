@@ -14,20 +14,20 @@ use Rattle.cert_merge.proofs.order.MergedOrder.needed_proof.Goals as goal
 
 pub push_if-requires-clause-ids : goal.push_if-requires-clause-ids
 push_if-requires-clause-ids c =
-    ids_low c.args.formula.now c.args.logs.now c.args.self.now.ids.items c.args.self.now.places.items c.loop-k.k c.index-in-loop-k.result.now
-    (length c.deref-in-loop-k.result.now) c.requires.ordered (omega arith) c.index-in-loop-k.ensures
+    ids_low c.args.formula.now c.args.logs.now c.args.self.now.ids.items c.args.self.now.places c.loop-k.k c.get.result
+    (length c.deref-in-loop-k.result.now) c.requires.ordered (omega arith) c.get.ensures
     (ap length c.deref-in-loop-k.ensures.value ∙ c.in_ok-ids.ensures.count ∙ ap length c.deref.ensures.value ∙ c.in_ok-marks.ensures.count
-    ∙ lines_count c.args.formula.now c.args.logs.now c.args.self.now.ids.items c.args.self.now.places.items)
+    ∙ lines_count c.args.formula.now c.args.logs.now c.args.self.now.ids.items c.args.self.now.places)
 
 pub loop-k-preserved : goal.loop-k-preserved
 loop-k-preserved c =
     let F = c.args.formula.now in
     let logs = c.args.logs.now in
     let ids = c.args.self.now.ids.items in
-    let order = c.args.self.now.places.items in
+    let order = c.args.self.now.places in
     let k = c.loop-k.k in
     let marks = c.in_ok-marks.marks.items in
-    let p : Place = c.index-in-loop-k.result.now in
+    let p : Place = c.get.result in
     let within : k < length order = omega arith in
     let room : k < length marks = omega (arith, c.in_ok-marks.ensures.count, lines_count F logs ids order) in
     let f : Line → Line = renumbered (listed_id (length F.clauses) c.in_ok-ids.ids.items) in
@@ -35,7 +35,7 @@ loop-k-preserved c =
     picked_more f marks (lines_of F logs ids (take k order)) (lines_of F logs ids (take (k + 1) order)) k line c.loop-k.lines.items
     c.push_if.new.lines.items room
     (length-map (take k order) (line_of F logs (id_in ids)) ∙ length-take-le k order (omega arith))
-    (lines_more F logs ids order k p within c.index-in-loop-k.ensures) c.loop-k.invariant
+    (lines_more F logs ids order k p within c.get.ensures) c.loop-k.invariant
     (c.in_ok-push_if.ensures
     ∙ ap (λ (is : List ℕ). c.loop-k.lines.items ++ (if c.index.result.now then renumbered (listed_id (length F.clauses) is) line ∷ [] else []))
     c.deref-in-loop-k.ensures.value
@@ -47,7 +47,7 @@ returns c =
     let F = c.args.formula.now in
     let logs = c.args.logs.now in
     let ids = c.args.self.now.ids.items in
-    let order = c.args.self.now.places.items in
+    let order = c.args.self.now.places in
     let marks = c.in_ok-marks.marks.items in
     let f : Line → Line = renumbered (listed_id (length F.clauses) c.in_ok-ids.ids.items) in
     let new : AreNewIds (length F.clauses) marks c.in_ok-ids.ids.items =

@@ -8,4 +8,4 @@ use Rattle.cert_merge.proofs.order.MergedOrder.needed_proof.Given as goal
 abbrev pub invariant-loop-k : goal.invariant-loop-k
 invariant-loop-k l =
     l.lines.items ≡ map (renumbered (listed_id (length l.formula.clauses) l.ids.items))
-    (picked (take l.k l.marks.items) (lines_of l.formula l.logs l.self.ids.items (take l.k l.self.places.items)))
+    (picked (take l.k l.marks.items) (lines_of l.formula l.logs l.self.ids.items (take l.k l.self.places)))

@@ -12,5 +12,5 @@ returns-clause-lists c =
     record {
       lists = c.loop-next.invariant.taking.lists;
       entries = all_lists c.args.formula.now c.args.logs.now c.loop-next.merger.ids.items c.loop-next.merger.units.items
-          c.loop-next.merger.places.items c.loop-next.invariant.taking done;
+          c.loop-next.merger.places c.loop-next.invariant.taking done;
     }

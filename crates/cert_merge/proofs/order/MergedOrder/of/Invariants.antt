@@ -9,7 +9,7 @@ rest_of (Some clock) = 2 ^ 32 - clock
 
 abbrev pub invariant-loop-next : goal.invariant-loop-next
 invariant-loop-next l = record {
-  taking : IsTaking l.formula l.logs l.merger.ids.items l.merger.units.items l.merger.places.items;
+  taking : IsTaking l.formula l.logs l.merger.ids.items l.merger.units.items l.merger.places;
   least : MatchOption l.next (IsAllTaken l.logs l.merger.ids.items) (IsLeastClock l.logs l.merger.ids.items);
 }
 

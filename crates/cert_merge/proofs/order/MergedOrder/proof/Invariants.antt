@@ -3,6 +3,6 @@ use Rattle.cert_merge.specs.Merging.{line_of}
 use Rattle.cert_merge.specs.Steps.Taking.{id_in}
 use Rattle.cert_merge.proofs.order.MergedOrder.proof.Given as goal
 
-abbrev pub invariant-loop-place : goal.invariant-loop-place
-invariant-loop-place l =
-    l.lines.items ≡ map (line_of l.formula l.logs (id_in l.self.ids.items)) (take l.place-index l.self.places.items)
+abbrev pub invariant-loop-k : goal.invariant-loop-k
+invariant-loop-k l =
+    l.lines.items ≡ map (line_of l.formula l.logs (id_in l.self.ids.items)) (take l.k l.self.places)

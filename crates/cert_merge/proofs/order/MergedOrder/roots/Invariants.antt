@@ -3,10 +3,10 @@ use Rattle.cert_merge.specs.Steps.Marking.{AreRoots, IsLookingFor}
 use Rattle.cert_merge.specs.Steps.Ordered.{lines_of}
 use Rattle.cert_merge.proofs.order.MergedOrder.roots.Given as goal
 
-abbrev pub invariant-loop-place : goal.invariant-loop-place
-invariant-loop-place l = record {
-  roots : AreRoots l.keep (lines_of l.formula l.logs l.self.ids.items (take l.place-index l.self.places.items)) l.marks.items;
-  looks : IsLookingFor l.keep (lines_of l.formula l.logs l.self.ids.items (take l.place-index l.self.places.items)) l.wanted.units.items
+abbrev pub invariant-loop-k : goal.invariant-loop-k
+invariant-loop-k l = record {
+  roots : AreRoots l.keep (lines_of l.formula l.logs l.self.ids.items (take l.k l.self.places)) l.marks.items;
+  looks : IsLookingFor l.keep (lines_of l.formula l.logs l.self.ids.items (take l.k l.self.places)) l.wanted.units.items
       l.wanted.empty;
   places : length l.wanted.units.items ≡ 2 * l.formula.vars + 2;
 }

@@ -11,8 +11,8 @@ loop-log-preserved c =
     record {
       lists =
           let none : List ℕ = [] in
-          c.in_ok-push.ensures.items ∙ ap (λ (xs : List (List ℕ)). xs ++ c.new.result ∷ []) c.loop-log.invariant.lists
-          ∙ ap (λ (x : List ℕ). empty_lists i ++ x ∷ []) c.new.ensures ∙ replicate_more i none;
+          c.in_ok-push.ensures.items ∙ ap (λ (xs : List (List ℕ)). xs ++ c.in_ok-with_capacity.field-0 ∷ []) c.loop-log.invariant.lists
+          ∙ ap (λ (x : List ℕ). empty_lists i ++ x ∷ []) c.in_ok-with_capacity.ensures ∙ replicate_more i none;
       kept = All-more IsLog c.args.logs.now i c.log-item.result (omega arith) c.loop-log.invariant.kept
           (subst IsLog (get_or_read c.args.logs.now i c.log-item.result (omega arith) c.log-item.is c.log-item.result) c.len-entries.ensures.log);
     }
@@ -20,9 +20,9 @@ loop-log-preserved c =
 pub returns : goal.returns
 returns c =
     let zero_ids : c.in_ok-vec.field-0.items ≡ zeros (2 * c.vars.result + 2) = search rules in
-    nothing_taken c.args.formula.now c.args.logs.now c.loop-log.ids.items c.in_ok-vec.field-0.items c.new-2.result.items
+    nothing_taken c.args.formula.now c.args.logs.now c.loop-log.ids.items c.in_ok-vec.field-0.items c.in_ok-with_capacity-2.field-0
     (subst (All IsLog) (take_all c.loop-log.log-index c.args.logs.now (omega arith)) c.loop-log.invariant.kept)
     c.requires
     (c.loop-log.invariant.lists ∙ ap empty_lists (omega arith))
     (zero_ids ∙ ap (λ (n : ℕ). zeros (2 * n + 2)) c.vars.ensures.value)
-    c.new-2.ensures.items
+    c.in_ok-with_capacity-2.ensures

@@ -6,8 +6,8 @@ use Rattle.cert_merge.proofs.order.Merger.take_clause.Goals as goal
 pub returns-clause-taking : goal.returns-clause-taking
 returns-clause-taking c =
     on_ok c.push_line.result _ _ (λ both.
-    clause_taken c.args.formula.now c.args.logs.now c.args.self.now.ids.items c.args.self.now.units.items c.args.self.now.places.items
-    c.push_line.new.self.ids.items c.push_line.new.self.units.items c.push_line.new.self.places.items c.args.place _ c.requires.taking
+    clause_taken c.args.formula.now c.args.logs.now c.args.self.now.ids.items c.args.self.now.units.items c.args.self.now.places
+    c.push_line.new.self.ids.items c.push_line.new.self.units.items c.push_line.new.self.places c.args.place _ c.requires.taking
     c.requires.next both.0 both.1 c.push_line.ensures.units
     (omega (arith, ap length c.clauses.ensures.value)) c.requires.line c.requires.kind)
     (with_ok c.push_line.result _ _ c.push_line.ensures.ids c.push_line.ensures.places)

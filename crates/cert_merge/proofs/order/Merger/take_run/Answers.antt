@@ -11,7 +11,7 @@ here c = record { log = c.args.g; entry = c.loop-entry.entry }
 
 pub returns-then-clock_of-clock-clause-front : goal.returns-then-clock_of-clock-clause-front
 returns-then-clock_of-clock-clause-front c =
-    front_over c.args.formula.now c.args.logs.now c.loop-entry.self.ids.items c.loop-entry.self.units.items c.loop-entry.self.places.items
+    front_over c.args.formula.now c.args.logs.now c.loop-entry.self.ids.items c.loop-entry.self.units.items c.loop-entry.self.places
     c.args.clock (here c) c.loop-entry.invariant.taking c.loop-entry.invariant.front c.loop-entry.invariant.head
     (λ place same. c.if-clock_of-clock.true (c.clock_of.ensures
     ∙ ap (λ (L : Recorded). (entry_at L c.loop-entry.entry).clock)
@@ -33,12 +33,12 @@ loop-entry-preserved c =
     record {
       taking = c.in_ok-take.ensures.taking;
       front = front_stays c.args.formula.now c.args.logs.now c.loop-entry.self.ids.items c.take.new.self.ids.items c.loop-entry.self.units.items
-          c.loop-entry.self.places.items c.args.clock c.args.g p c.loop-entry.invariant.taking is_next c.in_ok-take.ensures.ids
+          c.loop-entry.self.places c.args.clock c.args.g p c.loop-entry.invariant.taking is_next c.in_ok-take.ensures.ids
           c.loop-entry.invariant.front;
       head = omega (
         arith,
         count_rises c.args.formula.now c.args.logs.now c.loop-entry.self.ids.items c.take.new.self.ids.items
-            c.loop-entry.self.units.items c.loop-entry.self.places.items p c.loop-entry.invariant.taking is_next c.in_ok-take.ensures.ids,
+            c.loop-entry.self.units.items c.loop-entry.self.places p c.loop-entry.invariant.taking is_next c.in_ok-take.ensures.ids,
         c.loop-entry.invariant.head,
       );
     }

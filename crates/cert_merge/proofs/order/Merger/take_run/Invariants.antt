@@ -4,7 +4,7 @@ use Rattle.cert_merge.proofs.order.Merger.take_run.Given as goal
 
 abbrev pub invariant-loop-entry : goal.invariant-loop-entry
 invariant-loop-entry l = record {
-  taking : IsTaking l.formula l.logs l.self.ids.items l.self.units.items l.self.places.items;
+  taking : IsTaking l.formula l.logs l.self.ids.items l.self.units.items l.self.places;
   front : IsFront l.logs l.self.ids.items l.clock l.g;
   head : l.entry ≡ length (ids_at l.self.ids.items l.g);
 }

@@ -11,8 +11,8 @@ returns-clause-taking c =
     let lit : c.lit-lit.result ≡ literal_of (get_or c.args.logs.now c.args.place.log _) c.args.place.entry 0 =
     c.lit-lit.ensures ∙ ap (λ (L : Recorded). literal_of L c.args.place.entry 0)
     (log_read c.args.logs.now c.args.place.log c.index-logs-place.result c.requires.next.is_left.place.log_within c.index-logs-place.is) in
-    unit_taken c.args.formula.now c.args.logs.now c.args.self.now.ids.items c.args.self.now.units.items c.args.self.now.places.items
-    c.note_unit.new.self.ids.items c.note_unit.new.self.units.items c.note_unit.new.self.places.items c.args.place _
+    unit_taken c.args.formula.now c.args.logs.now c.args.self.now.ids.items c.args.self.now.units.items c.args.self.now.places
+    c.note_unit.new.self.ids.items c.note_unit.new.self.units.items c.note_unit.new.self.places c.args.place _
     c.requires.taking c.requires.next
     (c.note_unit.ensures.ids ∙ c.in_ok-push_line.ensures.ids)
     (c.note_unit.ensures.places ∙ c.in_ok-push_line.ensures.places)
