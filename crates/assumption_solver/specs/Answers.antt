@@ -58,5 +58,6 @@ ProgressSays Paused assume chunk budget stop L = (learnt_count L.entries ≡ sto
 pub record IsBegun (F : Cnf) (s : SolverState) : Type 0 where
   pub formula : s.log.formula ≡ F
   pub alive : s.dead ≡ false
+  pub clock : s.log.clock ≡ 0
   pub none_learnt : learnt_count s.log.entries ≡ 0
   pub none_imported : All (λ e. is_import e.kind ≡ false) s.log.entries
