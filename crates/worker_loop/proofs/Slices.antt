@@ -1,0 +1,165 @@
+-- What queries leave of a post.
+use Rattle.std.proofs.Common.{◌≡◌, ℕ, ◌+◌, ◌-◌, ◌<◌, ◌≤◌, false, List, [], ◌++◌, refl, sym, ap, ◌∙◌, subst, arith, append_assoc}
+use Rattle.std.proofs.lemmas.List.{append-nil}
+use Rattle.std.proofs.lemmas.List.Elements.{All-nil, All-append, All-weaker}
+use Rattle.lrat_log.specs.Entries.{Entry, Recorded, is_import, learnt_count}
+use Rattle.cnf_core.specs.Literals.{AreWithin, Literals}
+use Rattle.board_core.specs.Subjects.{About, groups}
+use Rattle.candidate_words.specs.Seats.{Board, Sitter, Sits}
+use Rattle.assumption_solver.specs.Logs.{IsContinued, IsQueried}
+use Rattle.assumption_solver.specs.SolverStates.{SolverState}
+use Rattle.assumption_solver.specs.Answers.{ProgressSays}
+use Rattle.assumption_solver.specs.declared.found.Found.{Found}
+use Rattle.assumption_solver.specs.declared.found.Progress.{Progress}
+use Rattle.assumption_solver.specs.declared.found.Progress.TheVariants.{Found as Ended, Paused}
+use Rattle.worker_loop.specs.declared.post.Post.{Post}
+use Rattle.worker_loop.specs.Posts.{IsLonger}
+use Rattle.worker_loop.specs.Steps.Held.{IsPost}
+use Rattle.worker_loop.specs.Steps.Moves.{IsOnward, IsAskedTimes}
+use Rattle.worker_loop.proofs.Grown.{longer_continued, longer_queried, clocked_continued, clocked_queried}
+use Rattle.worker_loop.proofs.Imports.{post_moved}
+use Rattle.worker_loop.proofs.Onward.{seen_refl, onward_refl, onward_trans}
+use Rattle.worker_loop.proofs.Queries.{asked_once}
+
+pub continued_refl : (L : Recorded) → IsContinued L L
+continued_refl L = record {
+  formula = refl;
+  query = refl;
+  clock = refl;
+  more = [];
+  entries = sym (append-nil L.entries);
+  own = All-nil (λ (e : Entry). e.query ≡ L.query);
+  shown = All-nil (λ (e : Entry). is_import e.kind ≡ false);
+}
+
+pub continued_trans : (L M N : Recorded) → IsContinued L M → IsContinued M N → IsContinued L N
+continued_trans L M N one two = record {
+  formula = two.formula ∙ one.formula;
+  query = two.query ∙ one.query;
+  clock = two.clock ∙ one.clock;
+  more = one.more ++ two.more;
+  entries = two.entries ∙ ap (λ (es : List Entry). es ++ two.more) one.entries ∙ append_assoc L.entries one.more two.more;
+  own = All-append (λ (e : Entry). e.query ≡ L.query) one.more two.more one.own
+      (All-weaker (λ (e : Entry). e.query ≡ M.query) (λ (e : Entry). e.query ≡ L.query) (λ e own. own ∙ one.query) two.more two.own);
+  shown = All-append (λ (e : Entry). is_import e.kind ≡ false) one.more two.more one.shown two.shown;
+}
+
+pub continued_same : (L M N : Recorded) → IsContinued L M → N ≡ M → IsContinued L N
+continued_same L M N one same = subst (λ (K : Recorded). IsContinued L K) (sym same) one
+
+pub queried_continued : (L M N : Recorded) → IsQueried L M → IsContinued M N → IsQueried L N
+queried_continued L M N one two = record {
+  formula = two.formula ∙ one.formula;
+  query = two.query ∙ one.query;
+  clock = two.clock ∙ one.clock;
+  more = one.more ++ two.more;
+  entries = two.entries ∙ ap (λ (es : List Entry). es ++ two.more) one.entries ∙ append_assoc L.entries one.more two.more;
+  own = All-append (λ (e : Entry). e.query ≡ N.query) one.more two.more
+      (All-weaker (λ (e : Entry). e.query ≡ M.query) (λ (e : Entry). e.query ≡ N.query) (λ e own. own ∙ sym two.query) one.more one.own)
+      (All-weaker (λ (e : Entry). e.query ≡ M.query) (λ (e : Entry). e.query ≡ N.query) (λ e own. own ∙ sym two.query) two.more two.own);
+  shown = All-append (λ (e : Entry). is_import e.kind ≡ false) one.more two.more one.shown two.shown;
+}
+
+-- the post after the solver went on in its query, and after a query began
+pub post_continued : (p : Post) (s : SolverState) → IsPost p → IsContinued p.solver.log s.log → learnt_count s.log.entries ≤ p.budget
+    → IsPost (record p { solver = s })
+post_continued p s is log few = post_moved p p.seat s is (record {
+  view = is.view;
+  once = is.once;
+  drops = refl;
+  fixes = refl;
+  log = longer_continued p.solver.log s.log log;
+  clocked = clocked_continued p.question.now p.seat.view p.solver.log s.log log is.clocked;
+  clock = subst (λ (n : ℕ). n ≤ p.question.now.formula.vars) (sym log.clock) is.clock;
+  few = few;
+})
+
+pub post_queried : (p : Post) (s : SolverState) → IsPost p → IsQueried p.solver.log s.log
+    → learnt_count s.log.entries ≡ learnt_count p.solver.log.entries → IsPost (record p { solver = s })
+post_queried p s is log same = post_moved p p.seat s is (record {
+  view = is.view;
+  once = is.once;
+  drops = refl;
+  fixes = refl;
+  log = longer_queried p.solver.log s.log log;
+  clocked = clocked_queried p.question.now p.seat.view p.solver.log s.log log is.clocked;
+  clock = subst (λ (n : ℕ). n ≤ p.question.now.formula.vars) (sym log.clock) is.clock;
+  few = subst (λ (n : ℕ). n ≤ p.budget) (sym same) is.few;
+})
+
+pub onward_solver : (p : Post) (s : SolverState) → IsLonger p.solver.log s.log → IsOnward p (record p { solver = s })
+onward_solver p s log = record {
+  question = refl;
+  table = refl;
+  number = refl;
+  next = refl;
+  out = refl;
+  loaded = refl;
+  loads = refl;
+  copy = refl;
+  seen = seen_refl (groups p.question.now.formula.vars) p.seat.view.seen;
+  looks = λ x. omega arith;
+  log = log;
+  budget = refl;
+}
+
+pub onward_queried : (p : Post) (s : SolverState) → IsQueried p.solver.log s.log → IsOnward p (record p { solver = s })
+onward_queried p s log = onward_solver p s (longer_queried p.solver.log s.log log)
+
+-- the log of a query and of the harvest behind it
+pub asked_by : (L M N K : Recorded) → IsQueried L M → IsContinued M N → K ≡ N → IsAskedTimes 1 L K
+asked_by L M N K one two same = subst (λ (J : Recorded). IsAskedTimes 1 L J) (sym same) (asked_once L N (queried_continued L M N one two))
+
+-- what slices of one query keep
+pub record IsAsking (b : Board) (p q : Post) : Type 0 where
+  pub post : IsPost q
+  pub sits : Sits b q.seat
+  pub onward : IsOnward p q
+  pub models : q.models ≡ p.models
+  pub log : IsContinued p.solver.log q.solver.log
+
+pub asking_refl : (b : Board) (p : Post) → IsPost p → Sits b p.seat → IsAsking b p p
+asking_refl b p post sits = record { post = post; sits = sits; onward = onward_refl p; models = refl; log = continued_refl p.solver.log }
+
+pub asking_next : (b : Board) (p q r : Post) → IsAsking b p q → IsPost r → Sits b r.seat → IsOnward q r → r.models ≡ q.models
+    → IsContinued q.solver.log r.solver.log → IsAsking b p r
+asking_next b p q r before post sits onward models log = record {
+  post = post;
+  sits = sits;
+  onward = onward_trans p q r before.onward onward;
+  models = models ∙ before.models;
+  log = continued_trans p.solver.log q.solver.log r.solver.log before.log log;
+}
+
+pub asking_closed : (b : Board) (p q r : Post) → IsAsking b p q → IsPost r → Sits b r.seat → IsOnward q r → r.models ≡ q.models
+    → r.solver ≡ q.solver → IsAsking b p r
+asking_closed b p q r before post sits onward models solver = record {
+  post = post;
+  sits = sits;
+  onward = onward_trans p q r before.onward onward;
+  models = models ∙ before.models;
+  log = continued_same p.solver.log q.solver.log r.solver.log before.log (ap (λ (s : SolverState). s.log) solver);
+}
+
+pub within_onward : (p q : Post) (ls : Literals) → IsOnward p q → AreWithin p.question.now.formula.vars ls
+    → AreWithin q.question.now.formula.vars ls
+within_onward p q ls onward within = subst (λ (a : About). AreWithin a.formula.vars ls) (sym onward.question) within
+
+-- a slice without an answer learnt what it may
+pub paused : (r : Progress) (assume chunk : Literals) (budget stop : ℕ) (L : Recorded) → ProgressSays r assume chunk budget stop L
+    → ((f : Found) → r ≡ Ended f → ⊥) → (learnt_count L.entries ≡ stop) × (stop < budget)
+paused (Ended f) assume chunk budget stop L says none = absurd (none f refl)
+paused Paused assume chunk budget stop L says none = says
+
+-- one slice more
+pub sits_sliced : (b : Board) (q r : Post) → Sits b q.seat → r.seat ≡ q.seat → Sits b r.seat
+sits_sliced b q r sits same = subst (λ (s : Sitter). Sits b s) (sym same) sits
+
+pub fewer_left : (q r s : Post) → r.solver ≡ q.solver → r.budget ≡ q.budget → q.budget ≡ s.budget
+    → (learnt_count q.solver.log.entries ≡ learnt_count s.solver.log.entries + 1000)
+    → learnt_count s.solver.log.entries + 1000 < q.budget
+    → r.budget - learnt_count r.solver.log.entries < s.budget - learnt_count s.solver.log.entries
+fewer_left q r s solver budget before learnt low =
+    let same : learnt_count r.solver.log.entries ≡ learnt_count q.solver.log.entries =
+    ap (λ (t : SolverState). learnt_count t.log.entries) solver in
+    omega (arith, same, budget, before, learnt, low)

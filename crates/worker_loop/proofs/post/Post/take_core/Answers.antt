@@ -1,0 +1,124 @@
+use Rattle.std.proofs.Common.{◌≡◌, ℕ, ◌<◌, ◌≤◌, Contains, List, [], sym, subst, ap, ◌∙◌, arith}
+use Rattle.std.specs.Prelude.{All}
+use Rattle.std.proofs.lemmas.List.Elements.{All-contains}
+use Rattle.cnf_core.specs.Literals.{Literal, Literals, AreWithin}
+use Rattle.board_core.specs.Subjects.{About, candidate}
+use Rattle.core_chunks.specs.Chunks.{AreSeen}
+use Rattle.assumption_solver.specs.Answers.{IsModelFor, FoundSays}
+use Rattle.assumption_solver.specs.declared.found.Found.{Found}
+use Rattle.worker_loop.specs.declared.post.Post.{Post}
+use Rattle.worker_loop.specs.Turns.{Goes}
+use Rattle.worker_loop.specs.Steps.Held.{IsPost, state_of}
+use Rattle.worker_loop.specs.Steps.Moves.{IsLoaded, IsOnward, IsClosed, IsOpenPhase}
+use Rattle.worker_loop.specs.Steps.Following.{IsCoreOf}
+use Rattle.worker_loop.proofs.Cores.{shown_core, within_core, rooted_core, unit_core, some_literal, closed_by_model, phases_onward, has_model}
+use Rattle.worker_loop.proofs.Going.{goes_by_core, loaded_onward_copy}
+use Rattle.worker_loop.proofs.Onward.{onward_trans}
+use Rattle.worker_loop.proofs.Replies.{no_core}
+use Rattle.worker_loop.proofs.Settling.{settled_onward, onward_from}
+use Rattle.worker_loop.proofs.post.Post.take_core.Goals as goal
+
+-- where all of the core is closed, the turn goes on
+goes_all : (p q : Post) (core : Literals) → IsPost p → IsLoaded p → IsOnward p q → IsCoreOf p core → All (λ l. IsClosed q l.var) core → Goes (state_of q)
+goes_all p q core post copied onward is closed =
+    let (one, among) = some_literal core is.some in
+    goes_by_core p q core one copied onward post is among (All-contains (λ (l : Literal). IsClosed q l.var) core one closed among)
+
+pub fix_all-requires-clause-rooted : goal.fix_all-requires-clause-rooted
+fix_all-requires-clause-rooted g c =
+    rooted_core c.args.self.now c.args.self.now.solver.log c.args.core.now c.requires.core.were_open
+    (unit_core c.args.self.now c.args.core.now c.requires.core c.if-core-eq1.true)
+
+pub fix_all-requires-clause-shown : goal.fix_all-requires-clause-shown
+fix_all-requires-clause-shown g c = shown_core c.args.self.now c.args.core.now c.requires.post c.requires.copied c.requires.core.were_open
+
+pub returns-then-core-eq1-clause-follows : goal.returns-then-core-eq1-clause-follows
+returns-then-core-eq1-clause-follows g c =
+    goes_all c.args.self.now c.fix_all.new.self c.args.core.now c.requires.post c.requires.copied c.fix_all.ensures.onward c.requires.core c.fix_all.ensures.closed
+
+pub returns-then-core-eq1-clause-settled : goal.returns-then-core-eq1-clause-settled
+returns-then-core-eq1-clause-settled g c =
+    settled_onward c.args.self.now c.fix_all.new.self c.fix_all.ensures.post c.fix_all.ensures.onward c.fix_all.ensures.models
+
+pub ask-requires-clause-chunk : goal.ask-requires-clause-chunk
+ask-requires-clause-chunk g c = within_core c.args.self.now c.args.core.now c.requires.post c.requires.copied c.requires.core.were_open
+
+pub fix_all-requires-in-Answered-AllFixed-clause-shown : goal.fix_all-requires-in-Answered-AllFixed-clause-shown
+fix_all-requires-in-Answered-AllFixed-clause-shown g c =
+    let onward = onward_from c.args.self.now c.ask.new.self c.prefer_against.new.solver c.prefer_against.ensures c.ask.ensures.onward in
+    subst (λ (a : About). All (λ l. candidate a.formula l.var ≡ 1) c.args.core.now) (sym onward.question)
+    (shown_core c.args.self.now c.args.core.now c.requires.post c.requires.copied c.requires.core.were_open)
+
+pub returns-in-Closed-clause-follows : goal.returns-in-Closed-clause-follows
+returns-in-Closed-clause-follows g c =
+    let onward = onward_from c.args.self.now c.ask.new.self c.prefer_against.new.solver c.prefer_against.ensures c.ask.ensures.onward in
+    goes_all c.args.self.now c.ask.new.self c.args.core.now c.requires.post c.requires.copied onward c.requires.core c.in-Closed.ensures.says.1
+
+pub returns-in-Closed-clause-settled : goal.returns-in-Closed-clause-settled
+returns-in-Closed-clause-settled g c =
+    let onward = onward_from c.args.self.now c.ask.new.self c.prefer_against.new.solver c.prefer_against.ensures c.ask.ensures.onward in
+    settled_onward c.args.self.now c.ask.new.self c.ask.ensures.post onward c.ask.ensures.models
+
+pub returns-in-Answered-AllFixed-clause-onward : goal.returns-in-Answered-AllFixed-clause-onward
+returns-in-Answered-AllFixed-clause-onward g c =
+    let onward = onward_from c.args.self.now c.ask.new.self c.prefer_against.new.solver c.prefer_against.ensures c.ask.ensures.onward in
+    onward_trans c.args.self.now c.ask.new.self c.fix_all-in-Answered-AllFixed.new.self onward c.fix_all-in-Answered-AllFixed.ensures.onward
+
+pub returns-in-Answered-AllFixed-clause-follows : goal.returns-in-Answered-AllFixed-clause-follows
+returns-in-Answered-AllFixed-clause-follows g c =
+    let onward = onward_from c.args.self.now c.ask.new.self c.prefer_against.new.solver c.prefer_against.ensures c.ask.ensures.onward in
+    goes_all c.args.self.now c.fix_all-in-Answered-AllFixed.new.self c.args.core.now c.requires.post c.requires.copied
+    (onward_trans c.args.self.now c.ask.new.self c.fix_all-in-Answered-AllFixed.new.self onward c.fix_all-in-Answered-AllFixed.ensures.onward)
+    c.requires.core c.fix_all-in-Answered-AllFixed.ensures.closed
+
+pub returns-in-Answered-AllFixed-clause-settled : goal.returns-in-Answered-AllFixed-clause-settled
+returns-in-Answered-AllFixed-clause-settled g c =
+    let onward = onward_from c.args.self.now c.ask.new.self c.prefer_against.new.solver c.prefer_against.ensures c.ask.ensures.onward in
+    settled_onward c.args.self.now c.fix_all-in-Answered-AllFixed.new.self c.fix_all-in-Answered-AllFixed.ensures.post
+    (onward_trans c.args.self.now c.ask.new.self c.fix_all-in-Answered-AllFixed.new.self onward c.fix_all-in-Answered-AllFixed.ensures.onward)
+    (c.fix_all-in-Answered-AllFixed.ensures.models ∙ c.ask.ensures.models)
+
+pub returns-in-Answered-Spent-clause-settled : goal.returns-in-Answered-Spent-clause-settled
+returns-in-Answered-Spent-clause-settled g c =
+    let onward = onward_from c.args.self.now c.ask.new.self c.prefer_against.new.solver c.prefer_against.ensures c.ask.ensures.onward in
+    settled_onward c.args.self.now c.ask.new.self c.ask.ensures.post onward c.ask.ensures.models
+
+pub returns-in_err-take_model-in-Answered-Model-clause-onward : goal.returns-in_err-take_model-in-Answered-Model-clause-onward
+returns-in_err-take_model-in-Answered-Model-clause-onward g c =
+    let onward = onward_from c.args.self.now c.ask.new.self c.prefer_against.new.solver c.prefer_against.ensures c.ask.ensures.onward in
+    onward_trans c.args.self.now c.ask.new.self c.take_model.new.self onward c.take_model.ensures.onward
+
+pub returns-in_ok-take_model-in-Answered-Model-clause-onward : goal.returns-in_ok-take_model-in-Answered-Model-clause-onward
+returns-in_ok-take_model-in-Answered-Model-clause-onward g c =
+    let onward = onward_from c.args.self.now c.ask.new.self c.prefer_against.new.solver c.prefer_against.ensures c.ask.ensures.onward in
+    onward_trans c.args.self.now c.ask.new.self c.take_model.new.self onward c.take_model.ensures.onward
+
+pub returns-in_ok-take_model-in-Answered-Model-clause-follows : goal.returns-in_ok-take_model-in-Answered-Model-clause-follows
+returns-in_ok-take_model-in-Answered-Model-clause-follows g c =
+    let p = c.args.self.now in
+    let onward = onward_from p c.ask.new.self c.prefer_against.new.solver c.prefer_against.ensures c.ask.ensures.onward in
+    let all = onward_trans p c.ask.new.self c.take_model.new.self onward c.take_model.ensures.onward in
+    let copied = loaded_onward_copy p c.ask.new.self c.requires.copied onward in
+    let were_open = phases_onward p c.ask.new.self c.args.core.now onward c.requires.core.were_open in
+    let says : IsModelFor c.ask.new.self.solver.log.formula [] c.args.core.now c.in-Answered-Model.model =
+    subst (λ (f : Found). FoundSays f [] c.args.core.now c.ask.new.self.budget c.ask.new.self.solver.log) c.in-Answered-Model.field-0-is c.in-Answered-Model.ensures.says in
+    let split = says.split c.requires.core.some in
+    goes_by_core p c.take_model.new.self c.args.core.now split.literal c.requires.copied all c.requires.post c.requires.core split.member
+    (closed_by_model c.ask.new.self c.take_model.new.self c.args.core.now c.in-Answered-Model.model c.ask.ensures.post copied were_open
+    c.in_ok-take_model-in-Answered-Model.ensures.dropped split)
+
+pub returns-in_ok-take_model-in-Answered-Model-clause-settled : goal.returns-in_ok-take_model-in-Answered-Model-clause-settled
+returns-in_ok-take_model-in-Answered-Model-clause-settled g c = λ settled.
+    let onward = onward_from c.args.self.now c.ask.new.self c.prefer_against.new.solver c.prefer_against.ensures c.ask.ensures.onward in
+    c.in_ok-take_model-in-Answered-Model.ensures.settled
+    (settled_onward c.args.self.now c.ask.new.self c.ask.ensures.post onward c.ask.ensures.models settled)
+
+pub unreachable-requires : goal.unreachable-requires
+unreachable-requires g c =
+    no_core c.ask.new.self.solver.log c.in-Answered-Core.field-0-0.items c.in-Answered-Core.field-0-1
+    (subst (λ (f : Found). FoundSays f [] c.args.core.now c.ask.new.self.budget c.ask.new.self.solver.log) c.in-Answered-Core.field-0-is c.in-Answered-Core.ensures.says)
+
+pub unreachable-requires-in-Answered-Unsat : goal.unreachable-requires-in-Answered-Unsat
+unreachable-requires-in-Answered-Unsat g c =
+    let says = subst (λ (f : Found). FoundSays f [] c.args.core.now c.ask.new.self.budget c.ask.new.self.solver.log) c.in-Answered-Unsat.field-0-is c.in-Answered-Unsat.ensures.says in
+    has_model c.ask.new.self c.ask.ensures.post says.1

@@ -1,0 +1,5 @@
+pub mod Posts
+pub mod Evidence
+pub mod Turns
+pub mod Runs
+pub mod Steps

@@ -1,0 +1,9 @@
+pub mod Questions
+pub mod Held
+pub mod Moves
+pub mod Asked
+pub mod Dropping
+pub mod Following
+pub mod Tools
+pub mod Handing
+pub mod Running

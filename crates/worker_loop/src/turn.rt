@@ -1,0 +1,240 @@
+//! A turn: the loads, a core query, and what follows from its answer.
+ghost use Rattle.std.specs.Prelude.{◌≡◌, ◌^◌, ◌<◌, ◌≤◌, length, IfOk, OnOk, All, map};
+ghost use Rattle.cnf_core.specs.Formulas.{IsModel};
+ghost use Rattle.board_core.specs.Subjects.{groups};
+ghost use Rattle.candidate_words.specs.Seats.{Sits};
+ghost use Rattle.core_chunks.specs.Chunks.{IsBlockOf};
+ghost use Rattle.worker_loop.specs.Posts.{IsLater, HasStored};
+ghost use Rattle.worker_loop.specs.Steps.Held.{IsPost, state_of, IsBetweenTurns};
+ghost use Rattle.worker_loop.specs.Steps.Moves.{IsLoaded, IsOnward, IsAskedTimes, against_phase, IsDropped, IsUnmoved, KeepsSettled, IsBlockOfAll};
+ghost use Rattle.worker_loop.specs.Steps.Following.{Follows, PostSays, IsCoreOf};
+ghost use Rattle.worker_loop.specs.declared.endings.TurnEnd.{TurnEnd};
+
+use crate::TurnEnd;
+use crate::asking::Asked;
+use crate::dropping::Flips;
+use crate::masks::group_of;
+use crate::post::Post;
+use assumption_solver::{Found, Solver};
+use candidate_words::Words;
+use chooser_core::Chooser;
+use cnf_core::{Lit, NoMemory, Values};
+use core_chunks::block;
+use std::alloc::Global;
+
+/// A block has at most so many candidates.
+const BLOCK: u32 = 256;
+
+/// So many open candidates are decided against their phases, beside the block.
+const DOSE: u32 = 1024;
+
+impl<'f, 'r> Post<'f, 'r> {
+    /// Takes a turn.
+    pub fn turn(
+        &mut self,
+        words: &Words,
+        chooser: &mut Box<dyn Chooser>,
+    ) -> Result<TurnEnd, NoMemory>
+        requires post { IsPost self.old }
+        requires sits { Sits words.now self.old.seat }
+        requires room { length self.old.models.models < 2 ^ 26 }
+        ensures post { IsPost self.new }
+        ensures sits { Sits words.now self.new.seat }
+        ensures later { IsLater (state_of self.old) (state_of self.new) }
+        ensures stored { HasStored self.old.models self.new.models }
+        ensures says { IfOk result (λ end. PostSays end (state_of self.old) (state_of self.new)) }
+        ensures between { OnOk result (IsBetweenTurns (state_of self.old) → IsBetweenTurns (state_of self.new)) }
+    {
+        self.load_all(words);
+        let block = self.open_block(self.first_group, BLOCK)?;
+        if block.is_empty() {
+            return Ok(TurnEnd::Done);
+        }
+        self.begin_behind(&block);
+        self.hear(words)?;
+        self.work(words, &block, chooser)
+    }
+
+    /// The first open candidates of the loaded words, at most so many, with the groups taken from this one on.
+    fn open_block(&self, from: u32, size: u32) -> Result<Vec<u32>, NoMemory>
+        requires post { IsPost self.now }
+        requires copied { IsLoaded self.now }
+        requires from { from < groups self.now.question.now.formula.vars }
+        ensures { IfOk result (λ block. IsBlockOf self.now.loaded.items self.now.question.now.formula.vars size block.items) }
+    {
+        first_open(self.alloc, &self.loaded, from, size)
+    }
+
+    /// The next block begins at the group of this one's last variable.
+    fn begin_behind(&mut self, block: &[u32])
+        requires post { IsPost self.old }
+        requires block { All (λ x. (0 < x) × (x ≤ self.old.question.now.formula.vars)) block.now }
+        ensures post { IsPost self.new }
+        ensures same { IsUnmoved self.old self.new }
+    {
+        let [.., last] = block else {
+            return;
+        };
+        self.first_group = group_of(*last);
+    }
+
+    /// Asks whether all of the block can be against their phases, and goes on by the answer.
+    fn work(
+        &mut self,
+        words: &Words,
+        block: &[u32],
+        chooser: &mut Box<dyn Chooser>,
+    ) -> Result<TurnEnd, NoMemory>
+        requires post { IsPost self.old }
+        requires sits { Sits words.now self.old.seat }
+        requires copied { IsLoaded self.old }
+        requires block { IsBlockOf self.old.loaded.items self.old.question.now.formula.vars 256 block.now }
+        requires some { 0 < length block.now }
+        requires room { length self.old.models.models < 2 ^ 26 }
+        ensures post { IsPost self.new }
+        ensures sits { Sits words.now self.new.seat }
+        ensures onward { IsOnward self.old self.new }
+        ensures asked { IsAskedTimes 2 self.old.solver.log self.new.solver.log }
+        ensures stored { HasStored self.old.models self.new.models }
+        ensures follows { IfOk result (λ end. Follows end self.new) }
+        ensures settled { OnOk result (KeepsSettled self.old self.new) }
+    {
+        let assume = self.against(block)?;
+        self.prefer(&assume)?;
+        match self.ask(words, &assume, &[], chooser) {
+            Asked::Closed => Ok(TurnEnd::Going),
+            Asked::Answered(Found::Model(model)) => {
+                self.take_model(words, model)?;
+                Ok(TurnEnd::Going)
+            }
+            Asked::Answered(Found::Core { lits, .. }) => self.take_core(words, &lits, chooser),
+            Asked::Answered(Found::Spent) => Ok(TurnEnd::Spent),
+            Asked::Answered(Found::Memory) => Err(NoMemory),
+            Asked::Answered(Found::AllFixed) => unreachable!(),
+            Asked::Answered(Found::Unsat { .. }) => unreachable!(),
+        }
+    }
+
+    /// The literals of the block's variables that are opposite to their phases.
+    fn against(&self, block: &[u32]) -> Result<Vec<Lit>, NoMemory>
+        requires post { IsPost self.now }
+        requires block { All (λ x. (0 < x) × (x ≤ self.now.question.now.formula.vars)) block.now }
+        ensures { IfOk result (λ lits. lits.items ≡ map (against_phase self.now.question.now.phases) block.now) }
+    {
+        let mut lits = Vec::with_capacity(self.alloc, block.len())?;
+        for var in block {
+            lits.push(self.phase_literal(*var).negated())?;
+        }
+        Ok(lits)
+    }
+
+    /// From here on the solver decides the variables of these literals by their signs, and those of the first open
+    /// candidates against their phases.
+    fn prefer(&mut self, lits: &[Lit]) -> Result<(), NoMemory>
+        requires post { IsPost self.old }
+        requires copied { IsLoaded self.old }
+        ensures post { IsPost self.new }
+        ensures same { IsUnmoved self.old self.new }
+    {
+        let candidates = self.open_block(0, DOSE)?;
+        let dose = self.against(&candidates)?;
+        prefer_all(&mut self.solver, &dose);
+        prefer_all(&mut self.solver, lits);
+        Ok(())
+    }
+
+    /// Stores a model and drops candidates by it, after candidates that keep their phases in it were turned as far as
+    /// that goes by single flips.
+    fn take_model(&mut self, words: &Words, model: Values) -> Result<(), NoMemory>
+        requires post { IsPost self.old }
+        requires sits { Sits words.now self.old.seat }
+        requires copied { IsLoaded self.old }
+        requires model { IsModel self.old.question.now.formula model }
+        requires room { length self.old.models.models < 2 ^ 26 }
+        ensures post { IsPost self.new }
+        ensures sits { Sits words.now self.new.seat }
+        ensures onward { IsOnward self.old self.new }
+        ensures solver { self.new.solver ≡ self.old.solver }
+        ensures stored { HasStored self.old.models self.new.models }
+        ensures dropped { OnOk result (IsDropped self.old model self.new) }
+        ensures settled { OnOk result (KeepsSettled self.old self.new) }
+    {
+        let candidates = self.open_block(0, self.question.formula().vars())?;
+        let mut model = model;
+        let rests = self
+            .question
+            .walk(&mut self.walker, &mut model, &candidates);
+        let flips = if rests { Flips::None } else { Flips::Listed };
+        self.absorb(words, &model, flips)?;
+        Ok(())
+    }
+
+    /// Fixes a core of one literal. Of a core of more it asks for a model in which one of them is false.
+    fn take_core(
+        &mut self,
+        words: &Words,
+        core: &[Lit],
+        chooser: &mut Box<dyn Chooser>,
+    ) -> Result<TurnEnd, NoMemory>
+        requires post { IsPost self.old }
+        requires sits { Sits words.now self.old.seat }
+        requires copied { IsLoaded self.old }
+        requires core { IsCoreOf self.old core.now }
+        requires room { length self.old.models.models < 2 ^ 26 }
+        ensures post { IsPost self.new }
+        ensures sits { Sits words.now self.new.seat }
+        ensures onward { IsOnward self.old self.new }
+        ensures asked { IsAskedTimes 1 self.old.solver.log self.new.solver.log }
+        ensures stored { HasStored self.old.models self.new.models }
+        ensures follows { IfOk result (λ end. Follows end self.new) }
+        ensures settled { OnOk result (KeepsSettled self.old self.new) }
+    {
+        if core.len() == 1 {
+            self.fix_all(words, core);
+            return Ok(TurnEnd::Going);
+        }
+        prefer_against(&mut self.solver, core);
+        match self.ask(words, &[], core, chooser) {
+            Asked::Closed => Ok(TurnEnd::Going),
+            Asked::Answered(Found::Model(model)) => {
+                self.take_model(words, model)?;
+                Ok(TurnEnd::Going)
+            }
+            Asked::Answered(Found::AllFixed) => {
+                self.fix_all(words, core);
+                Ok(TurnEnd::Going)
+            }
+            Asked::Answered(Found::Spent) => Ok(TurnEnd::Spent),
+            Asked::Answered(Found::Memory) => Err(NoMemory),
+            Asked::Answered(Found::Core { .. }) => unreachable!(),
+            Asked::Answered(Found::Unsat { .. }) => unreachable!(),
+        }
+    }
+}
+
+/// The first open candidates of the words.
+fn first_open(alloc: Global, words: &[u64], from: u32, size: u32) -> Result<Vec<u32>, NoMemory>
+    requires words { length words.now ≤ 2 ^ 15 }
+    requires from { from < length words.now }
+    ensures { IfOk result (λ block. IsBlockOfAll words.now size block.items) }
+{
+    block(alloc, words, from, size)
+}
+
+/// From here on the solver decides the variables of these literals by their signs.
+fn prefer_all(solver: &mut Solver, lits: &[Lit])
+    ensures { solver.new ≡ solver.old }
+{
+    for lit in lits {
+        solver.prefer(*lit);
+    }
+}
+
+/// From here on the solver decides the variables of these literals by the other signs.
+fn prefer_against(solver: &mut Solver, lits: &[Lit])
+    ensures { solver.new ≡ solver.old }
+{
+    for lit in lits {
+        solver.prefer(lit.negated());
+    }
+}
