@@ -17,6 +17,8 @@ mod loading;
 mod masks;
 mod post;
 mod question;
+#[cfg(test)]
+mod tests;
 mod tools;
 mod turn;
 mod worker;
