@@ -1,8 +1,10 @@
 //! The table and the workers of a run.
-ghost use Rattle.std.specs.Prelude.{◌≡◌, ◌+◌, ◌^◌, ◌<◌, ◌≤◌, length, IfOk, OnOk};
-ghost use Rattle.candidate_words.specs.Seats.{Sits};
-ghost use Rattle.worker_loop.specs.Posts.{IsFirst};
-ghost use Rattle.run_core.specs.Steps.Crews.{IsCrew, IsReturned};
+ghost use Rattle.std.specs.Prelude.{◌≡◌, ◌+◌, ◌^◌, ◌<◌, ◌≤◌, [], IfOk, OnOk};
+ghost use Rattle.std.specs.Vec.Iter.{into_iter_len};
+ghost use Rattle.cnf_core.specs.Formulas.{IsModel};
+ghost use Rattle.board_core.specs.Rules.{IsView};
+ghost use Rattle.worker_loop.specs.Posts.{IsFirst, IsUnused};
+ghost use Rattle.run_core.specs.Steps.Crews.{IsRootAt, IsAtRoot, IsReady, IsHired, AreVacant, IsHiring, IsCrew, IsReturned};
 
 use crate::RunSettings;
 use crate::slot::{Slot, run_in_turn, run_on_threads};
@@ -11,6 +13,7 @@ use candidate_words::{Seat, Words};
 use chooser_core::Chooser;
 use cnf_core::NoMemory;
 use std::alloc::Global;
+use std::mem;
 use std::thread::Threads;
 use std::vec::IntoIter;
 use worker_loop::{Gate, NoGate, Question, Share, Worker};
@@ -18,6 +21,7 @@ use worker_loop::{Gate, NoGate, Question, Share, Worker};
 /// The table of a run, and its workers in their slots. The slots are all the room that handing over takes.
 #[derive(Drop)]
 pub(crate) struct Crew<'f, 'r> {
+    pub settings: RunSettings,
     pub words: Words,
     pub slots: Vec<Slot<'f, 'r>>,
 }
@@ -35,25 +39,169 @@ impl<'f, 'r> Crew<'f, 'r> {
     ) -> Result<Crew<'f, 'r>, NoMemory>
         requires workers { (1 ≤ settings.workers) × (settings.workers ≤ 16) }
         requires budget { (1 ≤ settings.budget) × (settings.budget ≤ 2 ^ 40) }
+        requires vars { 0 < question.now.formula.vars }
+        requires phases { IsModel question.now.formula question.now.phases }
         requires first { IsFirst question.now settings.budget first }
-        requires others { settings.workers ≤ 1 + length others.items }
+        requires others { settings.workers ≤ 1 + into_iter_len others }
+        ensures settings { IfOk result (λ crew. crew.settings ≡ settings) }
         ensures about { IfOk result (λ crew. crew.words.about ≡ question.now) }
         ensures crew { IfOk result (λ crew. IsCrew crew.words settings.workers settings.budget crew.slots.items) }
     {
         let (words, mut root) = Words::open(alloc, question.formula(), question.phases())?;
-        let mut seats = Vec::with_capacity(alloc, settings.workers as usize)?;
-        split_seats(&words, &mut root, settings.workers, &mut seats);
         let mut slots = Vec::with_capacity(alloc, settings.workers as usize)?;
-        slots.push(Slot::Ready(first_worker(
-            alloc, settings, question, first, root, chooser, &words,
-        )?))?;
-        hire_others(alloc, settings, question, seats, others, &mut slots)?;
-        Ok(Crew { words, slots })
+        split_seats(&words, &mut root, settings.workers, &mut slots)?;
+        let mut crew = Crew {
+            settings,
+            words,
+            slots,
+        };
+        let first = crew.first_worker(alloc, question, first, root, chooser)?;
+        crew.slots[0] = Slot::Ready(first);
+        crew.hire_others(alloc, question, others);
+        Ok(crew)
+    }
+
+    /// The worker at the root, which has absorbed the first model.
+    fn first_worker(
+        &self,
+        alloc: Global,
+        question: &'r Question<'f>,
+        solver: Solver<'f>,
+        root: Seat,
+        chooser: Box<dyn Chooser>,
+    ) -> Result<Worker<'f, 'r>, NoMemory>
+        requires workers { 1 ≤ self.now.settings.workers }
+        requires budget { (1 ≤ self.now.settings.budget) × (self.now.settings.budget ≤ 2 ^ 40) }
+        requires about { self.now.words.about ≡ question.now }
+        requires phases { IsModel question.now.formula question.now.phases }
+        requires solver { IsFirst question.now self.now.settings.budget solver }
+        requires root { IsRootAt self.now.words self.now.settings.workers root }
+        ensures ready { IfOk result (IsReady self.now.words self.now.settings.budget 0) }
+        ensures first { IfOk result (IsAtRoot question.now self.now.settings.workers) }
+    {
+        let share = Share {
+            number: 0,
+            workers: self.settings.workers,
+            budget: self.settings.budget,
+            seed: self.settings.seed,
+        };
+        let Ok(mut worker) = Worker::new(alloc, share, question, Some(solver), root, chooser)
+        else {
+            return Err(NoMemory);
+        };
+        worker.absorb_model(&self.words, question.phases())?;
+        Ok(worker)
+    }
+
+    /// Makes the other workers at their seats.
+    fn hire_others(
+        &mut self,
+        alloc: Global,
+        question: &'r Question<'f>,
+        others: IntoIter<Box<dyn Chooser>>,
+    )
+        requires budget { (1 ≤ self.old.settings.budget) × (self.old.settings.budget ≤ 2 ^ 40) }
+        requires about { self.old.words.about ≡ question.now }
+        requires others { self.old.settings.workers ≤ 1 + into_iter_len others }
+        requires hiring { IsHiring self.old.words self.old.settings.workers self.old.settings.budget 1 self.old.slots.items }
+        ensures settings { self.new.settings ≡ self.old.settings }
+        ensures words { self.new.words ≡ self.old.words }
+        ensures crew { IsCrew self.old.words self.old.settings.workers self.old.settings.budget self.new.slots.items }
+    {
+        let mut others = others;
+        for number in 1..self.settings.workers {
+            let Some(chooser) = others.next() else {
+                unreachable!()
+            };
+            self.hire_next(alloc, question, number, chooser);
+        }
+    }
+
+    /// Makes the worker of this number at its seat.
+    fn hire_next(
+        &mut self,
+        alloc: Global,
+        question: &'r Question<'f>,
+        number: u32,
+        chooser: Box<dyn Chooser>,
+    )
+        requires number { (1 ≤ number) × (number < self.old.settings.workers) }
+        requires budget { (1 ≤ self.old.settings.budget) × (self.old.settings.budget ≤ 2 ^ 40) }
+        requires about { self.old.words.about ≡ question.now }
+        requires hiring { IsHiring self.old.words self.old.settings.workers self.old.settings.budget number self.old.slots.items }
+        ensures settings { self.new.settings ≡ self.old.settings }
+        ensures words { self.new.words ≡ self.old.words }
+        ensures hiring { IsHiring self.old.words self.old.settings.workers self.old.settings.budget (number + 1) self.new.slots.items }
+    {
+        let share = Share {
+            number,
+            workers: self.settings.workers,
+            budget: self.settings.budget,
+            seed: self.settings.seed,
+        };
+        let slot = &mut self.slots[number as usize];
+        if let Slot::Left(seat) = mem::replace(slot, Slot::Empty) {
+            *slot = hired(alloc, share, question, seat, chooser);
+        }
     }
 
     /// Runs all workers, one after another.
-    pub fn run_in_turn(&mut self) { .. }
+    pub fn run_in_turn(&mut self)
+        requires { IsCrew self.old.words self.old.settings.workers self.old.settings.budget self.old.slots.items }
+        ensures settings { self.new.settings ≡ self.old.settings }
+        ensures words { self.new.words ≡ self.old.words }
+        ensures returned { IsReturned self.old.words self.old.settings.workers self.old.settings.budget self.new.slots.items }
+    {
+        run_in_turn(&self.words, &NoGate, &mut self.slots);
+    }
 
     /// Runs all workers, each on a thread of its own where one can be made.
-    pub fn run_on_threads<R: Threads + Sync, G: Gate>(&mut self, rt: &R, gate: &G) { .. }
+    pub fn run_on_threads<R: Threads + Sync, G: Gate>(&mut self, rt: &R, gate: &G)
+        requires { IsCrew self.old.words self.old.settings.workers self.old.settings.budget self.old.slots.items }
+        ensures settings { self.new.settings ≡ self.old.settings }
+        ensures words { self.new.words ≡ self.old.words }
+        ensures returned { IsReturned self.old.words self.old.settings.workers self.old.settings.budget self.new.slots.items }
+    {
+        run_on_threads(rt, &self.words, gate, &mut self.slots);
+    }
+}
+
+/// Makes a slot for each of so many workers. That of the first is empty, and each other has a seat of its own.
+fn split_seats<'f, 'r>(
+    words: &Words,
+    root: &mut Seat,
+    workers: u32,
+    slots: &mut Vec<Slot<'f, 'r>>,
+) -> Result<(), NoMemory>
+    requires workers { (1 ≤ workers) × (workers ≤ 16) }
+    requires root { IsRootAt words.now 1 root.old }
+    requires empty { slots.old.items ≡ [] }
+    ensures root { OnOk result (IsRootAt words.now workers root.new) }
+    ensures seats { OnOk result (AreVacant words.now workers 1 workers slots.new.items) }
+{
+    slots.push(Slot::Empty)?;
+    while slots.len() < workers as usize {
+        slots.push(Slot::Left(words.split(root)))?;
+    }
+    Ok(())
+}
+
+/// A worker at the seat, or the seat where it couldn't be made for want of memory.
+fn hired<'f, 'r>(
+    alloc: Global,
+    share: Share,
+    question: &'r Question<'f>,
+    seat: Seat,
+    chooser: Box<dyn Chooser>,
+) -> Slot<'f, 'r>
+    requires number { share.number < share.workers }
+    requires budget { (1 ≤ share.budget) × (share.budget ≤ 2 ^ 40) }
+    requires seat { IsView question.now seat.view }
+    requires unused { IsUnused question.now seat }
+    ensures { IsHired question.now share.budget share.number seat result }
+{
+    match Worker::new(alloc, share, question, None, seat, chooser) {
+        Ok(worker) => Slot::Ready(worker),
+        Err(seat) => Slot::Left(seat),
+    }
 }

@@ -1,3 +1,6 @@
+ghost use Rattle.std.specs.Prelude.{◌≡◌, None};
+ghost use Rattle.run_core.specs.declared.outcome.Outcome.{Outcome};
+
 use cnf_core::{Lit, NoMemory};
 use lrat_lines::Proof;
 use lrat_log::Log;
@@ -33,9 +36,9 @@ pub enum Outcome<'f> {
 }
 
 impl<'f> From<NoMemory> for Outcome<'f> {
-    fn from(_error: NoMemory) -> Outcome<'f>
-        ensures { result ≡ Outcome.Memory None }
-    {
+    ghost from_gives = { λ _ outcome. outcome ≡ Outcome.Memory None };
+
+    fn from(_error: NoMemory) -> Outcome<'f> {
         Outcome::Memory(None)
     }
 }

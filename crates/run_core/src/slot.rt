@@ -1,5 +1,5 @@
 //! The room for handing workers over to their threads, and what they find back.
-ghost use Rattle.std.specs.Prelude.{ℕ, ◌<◌, length, slice_index_or};
+ghost use Rattle.std.specs.Prelude.{ℕ, ◌≡◌, ◌<◌, length, slice_index_or};
 ghost use Rattle.run_core.specs.Steps.Crews.{MayRun, Ran};
 
 use candidate_words::{Seat, Words};
@@ -15,9 +15,9 @@ pub(crate) enum Slot<'f, 'r> {
     Ready(Worker<'f, 'r>),
     /// What it handed in.
     Done(Findings<'f>),
-    /// The seat of one that couldn't be made for want of memory.
+    /// The seat of one that isn't made yet, or couldn't be for want of memory.
     Left(Seat),
-    /// Taken out.
+    /// Nobody is here yet, or what was here is taken out.
     Empty,
 }
 
@@ -43,9 +43,9 @@ fn run_slot<'f, 'r, G: Gate>(words: &Words, gate: &G, slot: &mut Slot<'f, 'r>)
 /// Runs all workers, one after another.
 pub(crate) fn run_in_turn<'f, 'r, G: Gate>(words: &Words, gate: &G, slots: &mut [Slot<'f, 'r>])
     requires { (i : ℕ) (d : _) → i < length slots.old → MayRun words.now (slice_index_or slots.old i d) }
-    ensures { (i : ℕ) (d : _) → i < length slots.old
-        → Ran words.now (slice_index_or slots.old i d) (slice_index_or slots.new i d) }
     ensures len { length slots.new ≡ length slots.old }
+    ensures each { (i : ℕ) (d : _) → i < length slots.old
+        → Ran words.now (slice_index_or slots.old i d) (slice_index_or slots.new i d) }
 {
     for slot in slots.iter_mut() {
         run_slot(words, gate, slot);
@@ -60,9 +60,9 @@ pub(crate) fn run_on_threads<'f, 'r, R: Threads + Sync, G: Gate>(
     slots: &mut [Slot<'f, 'r>],
 )
     requires { (i : ℕ) (d : _) → i < length slots.old → MayRun words.now (slice_index_or slots.old i d) }
-    ensures { (i : ℕ) (d : _) → i < length slots.old
-        → Ran words.now (slice_index_or slots.old i d) (slice_index_or slots.new i d) }
     ensures len { length slots.new ≡ length slots.old }
+    ensures each { (i : ℕ) (d : _) → i < length slots.old
+        → Ran words.now (slice_index_or slots.old i d) (slice_index_or slots.new i d) }
 {
     thread::for_each_mut(rt, slots, 16, &|_: usize, slot: &mut Slot|
         requires { MayRun words.now slot.old }

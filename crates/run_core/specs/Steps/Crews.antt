@@ -1,22 +1,23 @@
 -- The workers of a run in their slots, before they run and after.
 use Rattle.std.specs.Prelude.{◌≡◌, ℕ, ◌<◌, ◌≤◌, List, [], ◌∷◌, length, take, slice_index_or}
+use Rattle.cnf_core.specs.Literals.{Assignment}
 use Rattle.board_core.specs.Subjects.{About}
 use Rattle.board_core.specs.Words.{times}
 use Rattle.candidate_words.specs.Seats.{Board, Sitter, Sits}
 use Rattle.worker_loop.specs.declared.findings.Findings.{Findings}
-use Rattle.worker_loop.specs.Posts.{WorkerState, IsUnused}
+use Rattle.worker_loop.specs.Posts.{WorkerState, IsUnused, IsNewPost}
 use Rattle.worker_loop.specs.Runs.{IsFound}
 use Rattle.run_core.specs.declared.slot.Slot.{Slot}
 use Rattle.run_core.specs.declared.slot.Slot.TheVariants.{Ready, Done, Left, Empty}
 
 -- the worker of this number, which hasn't run, at its seat
-pub record IsReady (b : Board) (budget n : ℕ) (w : WorkerState) : Type 0 where
+pub record IsReady (b : Board) (limit n : ℕ) (w : WorkerState) : Type 0 where
   pub number : w.number ≡ n
   pub about : w.post.about ≡ b.about
   pub sits : Sits b w.post.seat
   pub seat : w.post.seat.view.number ≡ n
   pub few : length w.post.models.models ≤ 1
-  pub budget : w.post.budget ≡ budget
+  pub budget : w.post.budget ≡ limit
 
 -- the seat of a worker that couldn't be made
 pub record IsLeft (b : Board) (n : ℕ) (s : Sitter) : Type 0 where
@@ -35,6 +36,33 @@ pub record IsOut (first end : ℕ) (out : List ℕ) : Type 0 where
   pub each : (j : ℕ) → first ≤ j → j < end → 1 ≤ times j out
   pub only : (j : ℕ) → 1 ≤ times j out → (first ≤ j) × (j < end)
 
+-- the root, which has done nothing yet but to split off the seats with the numbers from 1 to below this one
+pub record IsRootAt (b : Board) (next : ℕ) (s : Sitter) : Type 0 where
+  pub sits : Sits b s
+  pub unused : IsUnused b.about s
+  pub number : s.view.number ≡ 0
+  pub next_is : s.view.next ≡ next
+  pub out : IsOut 1 next s.view.out
+
+-- the worker at the root, which has the first model
+pub record IsAtRoot (a : About) (workers : ℕ) (w : WorkerState) : Type 0 where
+  pub models : w.post.models.models ≡ a.phases ∷ []
+  pub out : IsOut 1 workers w.post.seat.view.out
+
+-- a new worker at the seat, or the seat where none could be made
+abbrev pub IsHired : {X : Type 0} {P : X → Type 0} → About → ℕ → ℕ → Sitter → Slot X P → Type 0
+IsHired a budget n s (Ready w) = (w.number ≡ n) × IsNewPost a s budget w.post
+IsHired a budget n s (Done f) = ⊥
+IsHired a budget n s (Left t) = t ≡ s
+IsHired a budget n s Empty = ⊥
+
+-- the slot of this number has the seat of a worker that isn't made yet
+abbrev pub IsVacant : {X : Type 0} {P : X → Type 0} → Board → ℕ → Slot X P → Type 0
+IsVacant b n (Ready w) = ⊥
+IsVacant b n (Done f) = ⊥
+IsVacant b n (Left s) = IsLeft b n s
+IsVacant b n Empty = ⊥
+
 -- the slot of this number before its worker runs, and after
 abbrev pub IsStaffed : {X : Type 0} {P : X → Type 0} → Board → ℕ → ℕ → Slot X P → Type 0
 IsStaffed b budget n (Ready w) = IsReady b budget n w
@@ -50,7 +78,7 @@ IsBack b budget n Empty = ⊥
 
 -- the first worker sits at the root and has the first model, before it runs and after
 abbrev pub IsFirstReady : {X : Type 0} {P : X → Type 0} → About → ℕ → Slot X P → Type 0
-IsFirstReady a workers (Ready w) = (w.post.models.models ≡ a.phases ∷ []) × IsOut 1 workers w.post.seat.view.out
+IsFirstReady a workers (Ready w) = IsAtRoot a workers w
 IsFirstReady a workers (Done f) = ⊥
 IsFirstReady a workers (Left s) = ⊥
 IsFirstReady a workers Empty = ⊥
@@ -77,6 +105,30 @@ Ran b (Ready w) Empty = ⊥
 Ran b (Done f) slot = slot ≡ Done f
 Ran b (Left s) slot = slot ≡ Left s
 Ran b Empty slot = slot ≡ Empty
+
+-- so many slots, of which those from one on up to an end have seats without workers
+pub record AreVacant {X : Type 0} {P : X → Type 0} (b : Board) (count first end : ℕ) (slots : List (Slot X P)) : Type 0 where
+  pub many : length slots ≡ count
+  pub vacant : (i : ℕ) (d : Slot X P) → first ≤ i → i < end → IsVacant b i (slice_index_or slots i d)
+
+-- the slots while seats are still split off
+pub record IsSplitting {X : Type 0} {P : X → Type 0} (b : Board) (workers : ℕ) (s : Sitter) (slots : List (Slot X P)) : Type 0 where
+  pub some : 1 ≤ length slots
+  pub most : length slots ≤ workers
+  pub root : IsRootAt b (length slots) s
+  pub seats : AreVacant b (length slots) 1 (length slots) slots
+
+-- the slots while the workers from this number on aren't made yet
+pub record IsHiring {X : Type 0} {P : X → Type 0} (b : Board) (workers budget number : ℕ) (slots : List (Slot X P)) : Type 0 where
+  pub seats : AreVacant b workers number workers slots
+  pub staffed : (i : ℕ) (d : Slot X P) → i < number → IsStaffed b budget i (slice_index_or slots i d)
+  pub first : (d : Slot X P) → IsFirstReady b.about workers (slice_index_or slots 0 d)
+
+-- the workers of the slots before this place ran, and the others didn't
+pub record HaveRun {X : Type 0} {P : X → Type 0} (b : Board) (place : ℕ) (old new : List (Slot X P)) : Type 0 where
+  pub len : length new ≡ length old
+  pub ran : (i : ℕ) (d : Slot X P) → i < place → Ran b (slice_index_or old i d) (slice_index_or new i d)
+  pub rest : (i : ℕ) (d : Slot X P) → place ≤ i → slice_index_or new i d ≡ slice_index_or old i d
 
 -- the crew of a run: so many slots, of which the first has the first worker
 pub record IsCrew {X : Type 0} {P : X → Type 0} (b : Board) (workers budget : ℕ) (slots : List (Slot X P)) : Type 0 where
