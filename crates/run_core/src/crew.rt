@@ -48,9 +48,9 @@ impl<'f, 'r> Crew<'f, 'r> {
         ensures crew { IfOk result (λ crew. IsCrew crew.words settings.workers settings.budget crew.slots.items) }
     {
         let (words, mut root) = Words::open(alloc, question.formula(), question.phases())?;
-        let mut slots = Vec::with_capacity(alloc, settings.workers as usize)?;
+        let mut slots: Vec<Slot<'f, 'r>> = Vec::with_capacity(alloc, settings.workers as usize)?;
         split_seats(&words, &mut root, settings.workers, &mut slots)?;
-        let mut crew = Crew {
+        let mut crew: Crew<'f, 'r> = Crew {
             settings,
             words,
             slots,
