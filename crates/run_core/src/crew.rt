@@ -29,6 +29,7 @@ pub(crate) struct Crew<'f, 'r> {
 impl<'f, 'r> Crew<'f, 'r> {
     /// Opens the table, splits a seat for each worker but the first, and makes the workers. The first has the solver and
     /// the chooser that found the first model, and absorbs it. Each other one that can't be made leaves its seat.
+    #[tactic(auto, using(crate::proofs::Splits::root_opened))]
     pub fn hire(
         alloc: Global,
         settings: RunSettings,
@@ -55,10 +56,34 @@ impl<'f, 'r> Crew<'f, 'r> {
             words,
             slots,
         };
-        let first = crew.first_worker(alloc, question, first, root, chooser)?;
-        crew.slots[0] = Slot::Ready(first);
+        crew.hire_first(alloc, question, first, root, chooser)?;
         crew.hire_others(alloc, question, others);
         Ok(crew)
+    }
+
+    /// Makes the first worker at the root.
+    fn hire_first(
+        &mut self,
+        alloc: Global,
+        question: &'r Question<'f>,
+        solver: Solver<'f>,
+        root: Seat,
+        chooser: Box<dyn Chooser>,
+    ) -> Result<(), NoMemory>
+        requires workers { 1 ≤ self.old.settings.workers }
+        requires budget { (1 ≤ self.old.settings.budget) × (self.old.settings.budget ≤ 2 ^ 40) }
+        requires about { self.old.words.about ≡ question.now }
+        requires phases { IsModel question.now.formula question.now.phases }
+        requires solver { IsFirst question.now self.old.settings.budget solver }
+        requires root { IsRootAt self.old.words self.old.settings.workers root }
+        requires seats { AreVacant self.old.words self.old.settings.workers 1 self.old.settings.workers self.old.slots.items }
+        ensures settings { self.new.settings ≡ self.old.settings }
+        ensures words { self.new.words ≡ self.old.words }
+        ensures hiring { OnOk result (IsHiring self.old.words self.old.settings.workers self.old.settings.budget 1 self.new.slots.items) }
+    {
+        let worker = self.first_worker(alloc, question, solver, root, chooser)?;
+        self.slots[0] = Slot::Ready(worker);
+        Ok(())
     }
 
     /// The worker at the root, which has absorbed the first model.
@@ -85,8 +110,7 @@ impl<'f, 'r> Crew<'f, 'r> {
             budget: self.settings.budget,
             seed: self.settings.seed,
         };
-        let Ok(mut worker) = Worker::new(alloc, share, question, Some(solver), root, chooser)
-        else {
+        let Ok(mut worker) = Worker::new(alloc, share, question, Some(solver), root, chooser) else {
             return Err(NoMemory);
         };
         worker.absorb_model(&self.words, question.phases())?;

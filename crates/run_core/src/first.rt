@@ -63,11 +63,7 @@ pub(crate) fn search<'f>(
                 others,
             })
         }
-        Found::Unsat { .. } => Err(Outcome::Unsat(refutation(
-            alloc,
-            formula,
-            solver.into_log(),
-        )?)),
+        Found::Unsat { .. } => Err(Outcome::Unsat(refutation(alloc, formula, solver.into_log())?)),
         Found::Spent => {
             let log = solver.into_log();
             prove_log(&log);

@@ -3,9 +3,8 @@ ghost use Rattle.std.specs.Prelude.{ℕ, ◌≡◌, ◌<◌, length, slice_index
 ghost use Rattle.run_core.specs.Steps.Crews.{MayRun, Ran};
 
 use candidate_words::{Seat, Words};
-use std::mem;
-use std::thread;
 use std::thread::Threads;
+use std::{mem, thread};
 use worker_loop::{Findings, Gate, Worker};
 
 /// The place of one worker: before it runs, and after.
@@ -64,8 +63,13 @@ pub(crate) fn run_on_threads<'f, 'r, R: Threads + Sync, G: Gate>(
     ensures each { (i : ℕ) (d : _) → i < length slots.old
         → Ran words.now (slice_index_or slots.old i d) (slice_index_or slots.new i d) }
 {
-    thread::for_each_mut(rt, slots, 16, &|_: usize, slot: &mut Slot|
-        requires { MayRun words.now slot.old }
-        ensures { Ran words.entry.now slot.old slot.new }
-    { run_slot(words, gate, slot) });
+    thread::for_each_mut(
+        rt,
+        slots,
+        16,
+        &|_: usize, slot: &mut Slot|
+            requires { MayRun words.now slot.old }
+            ensures { Ran words.entry.now slot.old slot.new }
+        { run_slot(words, gate, slot) },
+    );
 }
