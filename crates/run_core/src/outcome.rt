@@ -1,3 +1,5 @@
+ghost use Rattle.std.specs.Prelude.{◌≡◌};
+
 use cnf_core::{Lit, NoMemory};
 use lrat_lines::Proof;
 use lrat_log::Log;

@@ -10,13 +10,13 @@ use Rattle.run_core.specs.declared.slot.Slot.{Slot}
 use Rattle.run_core.specs.declared.slot.Slot.TheVariants.{Ready, Done, Left, Empty}
 
 -- the worker of this number, which hasn't run, at its seat
-pub record IsReady (b : Board) (budget n : ℕ) (w : WorkerState) : Type 0 where
+pub record IsReady (b : Board) (limit n : ℕ) (w : WorkerState) : Type 0 where
   pub number : w.number ≡ n
   pub about : w.post.about ≡ b.about
   pub sits : Sits b w.post.seat
   pub seat : w.post.seat.view.number ≡ n
   pub few : length w.post.models.models ≤ 1
-  pub budget : w.post.budget ≡ budget
+  pub budget : w.post.budget ≡ limit
 
 -- the seat of a worker that couldn't be made
 pub record IsLeft (b : Board) (n : ℕ) (s : Sitter) : Type 0 where
