@@ -1,25 +1,24 @@
 -- What the closed words tell of the literals that are fixed, and of the backbone.
-use Rattle.std.proofs.Common.{◌≡◌, ℕ, zero, suc, ◌+◌, ◌-◌, ◌*◌, ◌/◌, ◌%◌, ◌<◌, ◌≤◌, inl, inr, true≢false, Bool, true, false, List, [], ◌∷◌, ◌++◌, length, map, refl}
-use Rattle.std.proofs.Common.{sym, ap, ap₂, ◌∙◌, subst, ⊎_elim, arith, cond}
-use Rattle.std.specs.Prelude.{◌≢◌, ◌⊎◌, ◌==◌, ◌&&◌, nat_eq, IsTrue, filter, All, AllPairs, Contains}
+use Rattle.std.proofs.Common.{◌≡◌, ℕ, zero, suc, ◌+◌, ◌/◌, ◌%◌, ◌<◌, ◌≤◌, true≢false, Bool, true, false, List, [], ◌∷◌, ◌++◌, refl}
+use Rattle.std.proofs.Common.{sym, ap, ◌∙◌, ⊎_elim, arith, cond}
+use Rattle.std.specs.Prelude.{◌≢◌, ◌==◌, ◌&&◌, IsTrue, filter, All, Contains}
 use Rattle.std.proofs.lemmas.Bool.{cases_eq, cases_lt, eq-eqb, ne_eqb}
 use Rattle.std.proofs.lemmas.List.{append-nil}
 use Rattle.std.proofs.lemmas.List.Kept.{AllPairs-filter}
 use Rattle.std.proofs.lemmas.List.Quantifiers.{all_pairs_push}
 use Rattle.std.proofs.lemmas.List.Elements.{All-nil, All-push, All-contains, filter-append}
-use Rattle.cnf_core.specs.Literals.{Literal, Literals, Assignment, value_of, IsWithin, AreWithin, RisesByVar}
+use Rattle.cnf_core.specs.Literals.{Literal, Literals, Assignment, value_of, IsWithin, RisesByVar}
 use Rattle.cnf_core.specs.Formulas.{Cnf, IsModel, is_shown, Entails, entails, true_literal, true_literals, shown_backbone}
-use Rattle.cnf_core.proofs.Lists.{IsKept, kept_of_Contains-filter, Contains-filter}
+use Rattle.cnf_core.proofs.Lists.{kept_of_Contains-filter, Contains-filter}
 use Rattle.cnf_core.proofs.Models.{entails-against}
 use Rattle.cnf_core.proofs.Truth.{true_literals_within, Contains-true_literals, true_literals-more, true_literals-zero}
 use Rattle.cnf_core.proofs.Shown.{shown_of_model, shown_within}
-use Rattle.board_core.specs.Subjects.{About, groups, flag, candidate, Opposed, Entailed}
-use Rattle.board_core.specs.Words.{alive, fixed, open_at, times}
+use Rattle.board_core.specs.Subjects.{About, flag, candidate, Opposed, Entailed}
+use Rattle.board_core.specs.Words.{fixed, open_at}
 use Rattle.board_core.specs.Laws.{fixed_literals, NoneOpen}
-use Rattle.board_core.specs.Rules.{AreEarlier, Tells}
+use Rattle.board_core.specs.Rules.{Tells}
 use Rattle.board_core.specs.declared.view.View.{View}
-use Rattle.board_core.proofs.Ends.{candidate-lt, candidate_past, fixed_candidate}
-use Rattle.worker_loop.specs.Evidence.{IsWitness}
+use Rattle.board_core.proofs.Ends.{candidate_past, fixed_candidate}
 
 -- Candidates.
 pub candidate_of_shown : (F : Cnf) (x : ℕ) → IsTrue (is_shown F x) → candidate F x ≡ 1

@@ -1,7 +1,7 @@
 -- What the report of gathered findings says, where something is open and where nothing is.
-use Rattle.std.proofs.Common.{◌≡◌, ℕ, zero, suc, ◌+◌, ◌*◌, ◌<◌, ◌≤◌, inl, inr, Bool, false, List, [], ◌∷◌, ◌++◌, length, take, map, refl}
+use Rattle.std.proofs.Common.{◌≡◌, ℕ, zero, suc, ◌<◌, ◌≤◌, inl, inr, true≢false, Bool, true, false, List, [], ◌∷◌, length, take, map, refl}
 use Rattle.std.proofs.Common.{sym, ap, ◌∙◌, subst, ⊎_elim, arith, cond}
-use Rattle.std.specs.Prelude.{◌≢◌, ◌⊎◌, nat_eq, IsTrue, All, AllPairs, Contains, slice_index_or}
+use Rattle.std.specs.Prelude.{◌≢◌, not, Option, Some, None, is_some, MatchOption, nat_eq, All, AllPairs, Contains, slice_index_or}
 use Rattle.std.specs.List.Sorted.{IsPermutation, IsNonDecreasingBy}
 use Rattle.std.proofs.lemmas.Bool.{cases_eq, cases_lt, eq-eqb, ne_eqb}
 use Rattle.std.proofs.lemmas.List.{get_or-map, length-map}
@@ -9,25 +9,29 @@ use Rattle.std.proofs.lemmas.List.Elements.{All-weaker, All-contains, All-contai
 use Rattle.std.proofs.lemmas.List.Sorted.{IsPermutation-map, All-permutation, sum_by-IsPermutation}
 use Rattle.std.proofs.lemmas.List.Sums.{sum_by-cons}
 use Rattle.cnf_core.specs.Literals.{Literal, Literals, Assignment}
-use Rattle.cnf_core.specs.Formulas.{Cnf, IsModel, is_shown, Entails, true_literal, shown_backbone}
-use Rattle.cnf_core.proofs.Lists.{Contains-head, Contains-tail, Contains-nil, Contains-cons_cases}
-use Rattle.lrat_log.specs.Entries.{Recorded}
-use Rattle.model_store.specs.Stores.{Store, model_at}
+use Rattle.cnf_core.specs.Formulas.{Cnf, IsModel, Entails, true_literal}
+use Rattle.cnf_core.proofs.Lists.{nil_without_members, Contains-head, Contains-tail, Contains-nil, Contains-cons_cases}
+use Rattle.lrat_lines.specs.Proofs.{Proves}
+use Rattle.lrat_lines.specs.Tidy.{IsTidy}
+use Rattle.cert_merge.specs.Trimming.{HasUnits}
+use Rattle.model_store.specs.Stores.{Store, model_at, HoldsModels}
 use Rattle.model_store.specs.declared.witness.Witness.{Witness}
-use Rattle.board_core.specs.Subjects.{About, about, candidate, Opposed, Entailed}
+use Rattle.board_core.specs.Subjects.{About, about, candidate}
 use Rattle.board_core.specs.Words.{alive, fixed, open_at, times}
 use Rattle.board_core.specs.Laws.{fixed_literals, NoneOpen}
 use Rattle.board_core.specs.Rules.{Tells}
 use Rattle.board_core.specs.declared.view.View.{View}
-use Rattle.board_core.proofs.Ends.{candidate-lt, fixed_candidate}
+use Rattle.board_core.proofs.Ends.{candidate-lt, candidate_past, fixed_candidate}
 use Rattle.candidate_words.specs.Seats.{Board}
 use Rattle.worker_loop.specs.Evidence.{IsWitness, IsKeeping}
 use Rattle.run_core.specs.declared.gathered.Gathered.{Gathered}
 use Rattle.run_core.specs.declared.outcome.Report.{Report}
-use Rattle.run_core.specs.Outcomes.{about_first, IsDropped, IsFixed, HasDrop, HasFix, IsReport, IsOpen, IsComplete, IsUnfinished, IsExhausted, IsSpent, IsPartial}
+use Rattle.run_core.specs.Outcomes.{about_first, IsDropped, IsFixed, HasDrop, HasFix, IsReport, IsComplete, IsUnfinished, IsExhausted, IsSpent, IsPartial}
+use Rattle.run_core.specs.Steps.Crews.{IsOut}
+use Rattle.run_core.specs.Steps.Gathers.{IsGathered}
 use Rattle.run_core.specs.Steps.Reports.{IsReportOf}
 use Rattle.run_core.proofs.Joining.{open_most}
-use Rattle.run_core.proofs.Closing.{IsVar, candidate_of_shown, shown_of_candidate, var_of_candidate, conflict, entails_of_entailed, fixed_in, fixed_there, fixed_rise, open_before, none_after, backbone_fixed}
+use Rattle.run_core.proofs.Closing.{candidate_of_shown, shown_of_candidate, var_of_candidate, conflict, entails_of_entailed, fixed_in, fixed_there, fixed_rise, open_before, none_after, backbone_fixed}
 
 abbrev mark : Bool → ℕ
 mark b = cond b 1 0
@@ -96,13 +100,82 @@ image_of f (y ∷ xs) n among =
     (Contains-cons_cases (f y) (map f xs) n among)
 
 -- The first model.
-record IsFirstModel (ms : List Assignment) (phases : Assignment) : Type 0 where
-  some : 0 < length ms
-  is : slice_index_or ms 0 [] ≡ phases
+pub record IsFirstModel (ms : List Assignment) (phases : Assignment) : Type 0 where
+  pub some : 0 < length ms
+  pub is : slice_index_or ms 0 [] ≡ phases
 
-first_model : (ms : List Assignment) (phases : Assignment) → take 1 ms ≡ phases ∷ [] → IsFirstModel ms phases
+pub first_model : (ms : List Assignment) (phases : Assignment) → take 1 ms ≡ phases ∷ [] → IsFirstModel ms phases
 first_model [] phases is = absurd (omega (arith, ap length is))
 first_model (m ∷ ms) phases is = record { some = omega arith; is = ap (λ (xs : List Assignment). slice_index_or xs 0 []) is }
+
+pub phases_model : (s : Store) (a : About) → HoldsModels s → s.formula ≡ a.formula → take 1 s.models ≡ a.phases ∷ [] → IsModel a.formula a.phases
+phases_model s a holds formula first =
+    let is = first_model s.models a.phases first in
+    subst (λ (m : Assignment). IsModel a.formula m) is.is
+    (subst (λ (F : Cnf). IsModel F (slice_index_or s.models 0 [])) formula (holds.each 0 [] is.some))
+
+pub none_out : (n : ℕ) (out : List ℕ) → IsOut n n out → out ≡ []
+none_out n out is =
+    nil_without_members out (λ j here. let both = is.only j (times_member out j here) in omega (arith, both.0, both.1))
+
+pub same_fixed : (p q : Assignment) (xs ys : List ℕ) (m n : ℕ) → p ≡ q → xs ≡ ys → m ≡ n → fixed_literals p xs m ≡ fixed_literals q ys n
+same_fixed p q xs ys m n phases words vars =
+    ap (λ (z : Assignment). fixed_literals z xs m) phases ∙ ap (λ (z : List ℕ). fixed_literals q z m) words
+    ∙ ap (λ (z : ℕ). fixed_literals q ys z) vars
+
+-- the fixed literals that were read off, and the report that was made
+pub fixes_made : (a : About) (F : Cnf) (s : Store) (ws xs : List ℕ) (n : ℕ) (lits : Literals) → a.formula ≡ F → take 1 s.models ≡ a.phases ∷ []
+    → xs ≡ ws → n ≡ F.vars → lits ≡ fixed_literals (model_at s 0) xs n → lits ≡ fixed_literals a.phases ws a.formula.vars
+fixes_made a F s ws xs n lits formula first words vars is =
+    is ∙ same_fixed (model_at s 0) a.phases xs ws n a.formula.vars (first_model s.models a.phases first).is words
+    (vars ∙ sym (ap (λ (G : Cnf). G.vars) formula))
+
+pub report_made : (b : Board) (workers budget : ℕ) (g : Gathered) (ws : List ℕ) (r : Report) (F : Cnf) (keep : Literals) → b.about.formula ≡ F
+    → IsGathered b workers budget workers g → Tells b.about ws g.seat.view → HoldsModels g.models → r.models ≡ g.models
+    → IsPermutation g.drops.items r.drops.items → IsNonDecreasingBy (λ (w : Witness). w.var) r.drops.items
+    → r.fixes.items ≡ fixed_literals b.about.phases ws b.about.formula.vars → keep ≡ r.fixes.items
+    → Proves F r.proof → IsTidy F r.proof → HasUnits r.proof keep → IsReportOf b workers budget g ws r
+report_made b workers budget g ws r F keep formula gathered tells holds models moved sorted fixes kept accepted tidy units = record {
+  gathered = gathered;
+  tells = tells;
+  phases = phases_model g.models b.about holds gathered.store gathered.first;
+  models = models;
+  moved = moved;
+  sorted = sorted;
+  fixes = fixes;
+  accepted = subst (λ (G : Cnf). Proves G r.proof) (sym formula) accepted;
+  tidy = subst (λ (G : Cnf). IsTidy G r.proof) (sym formula) tidy;
+  units = subst (λ (ls : Literals). HasUnits r.proof ls) kept units;
+}
+
+-- What was found of an open variable.
+pub closed_all : (o : Option ℕ) (b : Bool) (P : Type 0) (Q : ℕ → Type 0) → is_some o ≡ not b → b ≡ true → MatchOption o P Q → P
+closed_all None b P Q is told says = says
+closed_all (Some x) b P Q is told says = absurd (true≢false (is ∙ ap not told))
+
+pub record HasOne (Q : ℕ → Type 0) : Type 0 where
+  pub var : ℕ
+  pub holds : Q var
+
+pub open_one : (o : Option ℕ) (b : Bool) (P : Type 0) (Q : ℕ → Type 0) → is_some o ≡ not b → b ≡ false → MatchOption o P Q → HasOne Q
+open_one None b P Q is told says = absurd (true≢false (sym (is ∙ ap not told)))
+open_one (Some x) b P Q is told says = record { var = x; holds = says }
+
+pub none_open_upto : (a : About) (ws : List ℕ) (v : View) → Tells a ws v
+    → ((x : ℕ) → 0 < x → x ≤ a.formula.vars → open_at ws x ≡ 0) → NoneOpen ws
+none_open_upto a ws v tells closed zero = omega arith
+none_open_upto a ws v tells closed (suc c) =
+    ⊎_elim
+    (λ (past : a.formula.vars < suc c). omega (arith, tells.drops (suc c), candidate_past a.formula (suc c) past))
+    (λ (high : suc c ≤ a.formula.vars). closed (suc c) (omega arith) high)
+    (cases_lt a.formula.vars (suc c))
+
+-- what the words that were looked at say, of which these are a copy
+pub closed_copy : (a : About) (F : Cnf) (ws xs : List ℕ) (v : View) (n : ℕ) → Tells a ws v → a.formula ≡ F → xs ≡ ws → n ≡ F.vars
+    → ((x : ℕ) → 0 < x → x ≤ n → open_at xs x ≡ 0) → NoneOpen ws
+closed_copy a F ws xs v n tells formula words vars closed =
+    none_open_upto a ws v tells (λ x low high. subst (λ (zs : List ℕ). open_at zs x ≡ 0) words
+    (closed x low (subst (λ (m : ℕ). x ≤ m) (ap (λ (G : Cnf). G.vars) formula ∙ sym vars) high)))
 
 -- What the closed words and the root's view say of a variable.
 rise_of : (ws : List Witness) → IsNonDecreasingBy (λ (w : Witness). w.var) ws → ((x : ℕ) → times x (map var_of ws) ≤ 1)

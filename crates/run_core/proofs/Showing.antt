@@ -1,5 +1,5 @@
 -- What the merge asks of gathered logs: each import has a unit before it, and each fixed literal one.
-use Rattle.std.proofs.Common.{◌≡◌, ℕ, zero, suc, ◌+◌, ◌<◌, ◌≤◌, true≢false, Bool, true, false, List, [], ◌∷◌, ◌++◌, length, map, refl}
+use Rattle.std.proofs.Common.{◌≡◌, ℕ, ◌<◌, ◌≤◌, true≢false, Bool, true, List, [], ◌∷◌, length, map, refl}
 use Rattle.std.proofs.Common.{sym, ap, ◌∙◌, subst, ⊎_elim, arith, cond}
 use Rattle.std.specs.Prelude.{◌≢◌, nat_eq, not, IsTrue, All, Contains, slice_index_or}
 use Rattle.std.proofs.lemmas.Bool.{cases_eq, ne_eqb, and_from}
@@ -14,19 +14,19 @@ use Rattle.lrat_log.specs.declared.kind.Kind.{Kind}
 use Rattle.lrat_log.specs.declared.kind.Kind.TheVariants.{Learnt, Unit as UnitKind, Core, Empty, Import}
 use Rattle.lrat_log.specs.Entries.{Entry, Recorded, empty_log, entry_at, no_entry, no_literal, is_import}
 use Rattle.cert_merge.specs.declared.place.Place.{Place}
-use Rattle.cert_merge.specs.Merging.{log_at, entry_in, literal_in, IsPlace, IsImport, IsUnitOf, IsShownBefore, AreImportsShown}
+use Rattle.cert_merge.specs.Merging.{log_at, entry_in, literal_in, IsUnitOf, AreImportsShown}
 use Rattle.cert_merge.specs.Trimming.{is_just}
 use Rattle.lrat_lines.specs.Sets.{is_same}
 use Rattle.cert_merge.specs.MergedNeeds.{HasUnitEntry, HaveUnitEntries}
 use Rattle.board_core.specs.Subjects.{About}
-use Rattle.board_core.specs.Words.{fixed, times}
+use Rattle.board_core.specs.Words.{times}
 use Rattle.board_core.specs.Boards.{stamped}
 use Rattle.board_core.specs.Laws.{fixed_literals}
 use Rattle.board_core.specs.Rules.{Tells}
 use Rattle.board_core.specs.declared.view.View.{View}
 use Rattle.board_core.specs.declared.view.Stamped.{Stamped}
 use Rattle.assumption_solver.specs.Units.{is_unit}
-use Rattle.worker_loop.specs.Evidence.{IsImportOf, IsPublished}
+use Rattle.worker_loop.specs.Evidence.{IsImportOf}
 use Rattle.run_core.specs.Steps.Gathers.{IsRootedIn, IsPublishedIn, AreImportsOf}
 use Rattle.run_core.proofs.Closing.{fixed_in}
 

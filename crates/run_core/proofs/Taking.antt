@@ -1,12 +1,11 @@
 -- The findings of one worker after another.
-use Rattle.std.proofs.Common.{◌≡◌, ℕ, zero, suc, ◌+◌, ◌*◌, ◌<◌, ◌≤◌, inl, inr, true≢false, Bool, true, false, List, [], ◌∷◌, ◌++◌, length, take, map, refl}
+use Rattle.std.proofs.Common.{◌≡◌, ℕ, ◌+◌, ◌*◌, ◌<◌, ◌≤◌, inl, inr, true≢false, Bool, true, false, List, [], ◌∷◌, ◌++◌, length, take, map, refl}
 use Rattle.std.proofs.Common.{sym, ap, ap₂, ◌∙◌, subst, ⊎_elim, arith}
 use Rattle.std.specs.Prelude.{◌⊎◌, ◌||◌, IsTrue, All, Contains}
 use Rattle.std.proofs.Math.Nat.{mul-le-mul_left}
-use Rattle.std.proofs.lemmas.List.{map-append, length-append, take-append-le, append-nil}
+use Rattle.std.proofs.lemmas.List.{map-append, length-append, append-nil}
 use Rattle.std.proofs.lemmas.List.Elements.{All-weaker, All-nil, All-cons, All-append, All-push, All-map, Contains-append_left, Contains-append_right, Contains-push}
 use Rattle.cnf_core.specs.Literals.{Literal, Literals}
-use Rattle.cnf_core.specs.Formulas.{Cnf}
 use Rattle.cnf_core.proofs.Lists.{Contains-head}
 use Rattle.lrat_log.specs.Entries.{Entry, Recorded, is_import}
 use Rattle.lrat_log.specs.Laws.{IsFull}
@@ -24,9 +23,9 @@ use Rattle.candidate_words.specs.Seats.{Board, Sitter, Sits, with_view}
 use Rattle.worker_loop.specs.declared.endings.End.{End}
 use Rattle.worker_loop.specs.declared.endings.End.TheVariants.{Done, Spent, Memory}
 use Rattle.worker_loop.specs.declared.findings.Findings.{Findings}
-use Rattle.worker_loop.specs.Posts.{PostState, IsUnused}
-use Rattle.worker_loop.specs.Runs.{IsFound, ByCause, UnlessMemory}
-use Rattle.worker_loop.specs.Evidence.{IsWitness, IsRooted, IsTold, IsSettled, IsImportOf, IsPublished}
+use Rattle.worker_loop.specs.Posts.{PostState}
+use Rattle.worker_loop.specs.Runs.{ByCause, UnlessMemory}
+use Rattle.worker_loop.specs.Evidence.{IsWitness, IsRooted, IsSettled, IsImportOf, IsPublished}
 use Rattle.run_core.specs.declared.gathered.Gathered.{Gathered}
 use Rattle.run_core.specs.Outcomes.{IsSpent}
 use Rattle.run_core.specs.Steps.Crews.{IsOut, IsHome, IsLeft}

@@ -1,5 +1,5 @@
 -- How a run ends, and what each end says.
-use Rattle.std.specs.Prelude.{◌≡◌, ℕ, ◌<◌, ◌≤◌, ◌⊎◌, IsTrue, IfSome, List, [], map, length, All, AllPairs, Contains}
+use Rattle.std.specs.Prelude.{◌≡◌, ℕ, ◌<◌, ◌⊎◌, IsTrue, IfSome, List, [], map, length, All, AllPairs, Contains}
 use Rattle.cnf_core.specs.Literals.{Literal, RisesByVar}
 use Rattle.cnf_core.specs.Formulas.{Cnf, is_shown, Entails, models, shown_backbone, true_literal}
 use Rattle.lrat_lines.specs.declared.line.Line.{Line}

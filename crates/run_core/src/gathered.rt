@@ -2,7 +2,7 @@
 ghost use Rattle.std.specs.Prelude.{◌≡◌, ◌+◌, ◌^◌, ◌<◌, ◌≤◌, ◌++◌, IfOk, OnOk, All, length, map};
 ghost use Rattle.model_store.specs.Witnesses.{IsInRange};
 ghost use Rattle.run_core.specs.Steps.Crews.{IsReturned};
-ghost use Rattle.run_core.specs.Steps.Gathers.{IsGathered, HasBegun, MayTakeIn, HasTakenIn, MayTakeAll, HasTaken, MayTake, HasJoined, moved};
+ghost use Rattle.run_core.specs.Steps.Gathers.{IsGathered, MayBegin, HasBegunIn, HasBegun, MayTakeIn, HasTakenIn, MayTakeAll, HasTaken, MayTake, HasJoined, moved};
 
 use crate::RunSettings;
 use crate::slot::Slot;
@@ -40,10 +40,10 @@ pub(crate) fn gather<'f, 'r>(
     ensures { IfOk result (IsGathered words.now settings.workers settings.budget settings.workers) }
 {
     let mut slots = slots.into_iter();
-    let Some(Slot::Done(findings)) = slots.next() else {
+    let Some(first) = slots.next() else {
         unreachable!()
     };
-    let mut gathered = Gathered::of_root(alloc, settings.workers, findings)?;
+    let mut gathered = Gathered::of_first(alloc, settings.workers, first)?;
     for slot in slots {
         gathered.take_in(words, slot)?;
     }
@@ -51,6 +51,21 @@ pub(crate) fn gather<'f, 'r>(
 }
 
 impl<'f> Gathered<'f> {
+    /// What is in the slot of the root's worker.
+    fn of_first<'r>(
+        alloc: Global,
+        workers: u32,
+        slot: Slot<'f, 'r>,
+    ) -> Result<Gathered<'f>, NoMemory>
+        requires { MayBegin slot }
+        ensures { IfOk result (HasBegunIn slot.entry) }
+    {
+        match slot {
+            Slot::Done(findings) => Gathered::of_root(alloc, workers, findings),
+            Slot::Ready(_) | Slot::Left(_) | Slot::Empty => unreachable!(),
+        }
+    }
+
     /// What the root's worker handed in, with room for the logs of so many.
     fn of_root(
         alloc: Global,

@@ -1,4 +1,5 @@
-ghost use Rattle.std.specs.Prelude.{◌≡◌};
+ghost use Rattle.std.specs.Prelude.{◌≡◌, None};
+ghost use Rattle.run_core.specs.declared.outcome.Outcome.{Outcome};
 
 use cnf_core::{Lit, NoMemory};
 use lrat_lines::Proof;
@@ -35,9 +36,9 @@ pub enum Outcome<'f> {
 }
 
 impl<'f> From<NoMemory> for Outcome<'f> {
-    fn from(_error: NoMemory) -> Outcome<'f>
-        ensures { result ≡ Outcome.Memory None }
-    {
+    ghost from_gives = { λ _ outcome. outcome ≡ Outcome.Memory None };
+
+    fn from(_error: NoMemory) -> Outcome<'f> {
         Outcome::Memory(None)
     }
 }

@@ -1,5 +1,5 @@
 -- What the workers handed in, gathered at the root's seat.
-use Rattle.std.specs.Prelude.{◌≡◌, ℕ, ◌+◌, ◌*◌, ◌<◌, ◌≤◌, ◌⊎◌, ◌||◌, Bool, true, false, IsTrue, List, [], ◌∷◌, ◌++◌, map, length, take, All, Contains}
+use Rattle.std.specs.Prelude.{◌≡◌, ℕ, ◌+◌, ◌*◌, ◌≤◌, ◌⊎◌, ◌||◌, Bool, true, false, IsTrue, List, [], ◌∷◌, ◌++◌, map, length, take, All, Contains}
 use Rattle.cnf_core.specs.Literals.{Literal, Literals}
 use Rattle.lrat_log.specs.Entries.{Entry, Recorded, is_import}
 use Rattle.cert_merge.specs.Merging.{AreOf}
@@ -73,6 +73,19 @@ pub record HasJoined (b : Board) (g : Gathered) (s : Sitter) (h : Gathered) : Ty
   pub fixes : h.fixes.items ≡ g.fixes.items
   pub logs : h.logs.items ≡ g.logs.items
   pub failed : h.failed ≡ g.failed
+
+-- the slot has findings, and they are all that was gathered
+abbrev pub MayBegin : {X : Type 0} {P : X → Type 0} → Slot X P → Type 0
+MayBegin (Ready w) = ⊥
+MayBegin (Done f) = Unit {0}
+MayBegin (Left s) = ⊥
+MayBegin Empty = ⊥
+
+abbrev pub HasBegunIn : {X : Type 0} {P : X → Type 0} → Slot X P → Gathered → Type 0
+HasBegunIn (Ready w) g = ⊥
+HasBegunIn (Done f) g = HasBegun f g
+HasBegunIn (Left s) g = ⊥
+HasBegunIn Empty g = ⊥
 
 -- what is in a slot may be taken, and was
 abbrev pub MayTakeIn : {X : Type 0} {P : X → Type 0} → Board → Gathered → Slot X P → Type 0

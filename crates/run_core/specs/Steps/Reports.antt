@@ -1,5 +1,5 @@
 -- The report that is made of gathered findings.
-use Rattle.std.specs.Prelude.{◌≡◌, ℕ, ◌<◌, ◌≤◌, List}
+use Rattle.std.specs.Prelude.{◌≡◌, ℕ, List}
 use Rattle.std.specs.List.Sorted.{IsPermutation, IsNonDecreasingBy}
 use Rattle.cnf_core.specs.Formulas.{IsModel}
 use Rattle.lrat_lines.specs.Proofs.{Proves}

@@ -1,4 +1,4 @@
-use Rattle.std.proofs.Common.{◌≡◌, ℕ, ◌+◌, Bool, List, [], ◌∷◌, ◌++◌, sym, ap, ◌∙◌, subst, Vec, Global}
+use Rattle.std.proofs.Common.{◌≡◌, ◌+◌, Bool, [], ◌∷◌, ◌++◌, sym, ap, ◌∙◌, subst, Vec, Global}
 use Rattle.cnf_core.specs.Literals.{Literal, Literals}
 use Rattle.cnf_core.specs.Formulas.{true_literal}
 use Rattle.board_core.specs.Laws.{fixed_literals}
