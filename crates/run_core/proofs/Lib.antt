@@ -1,3 +1,9 @@
 pub mod Splits
 pub mod Crews
 pub mod Searches
+pub mod Joining
+pub mod Taking
+pub mod Rounds
+pub mod Closing
+pub mod Showing
+pub mod Reporting

@@ -2,7 +2,7 @@
 use Rattle.std.proofs.Common.{◌≡◌, ℕ, suc, ◌+◌, ◌*◌, ◌<◌, ◌≤◌, not, true, false, true≢false, IsTrue, List, [], ◌∷◌, ◌++◌, length, refl, sym, ap, ◌∙◌, subst, arith}
 use Rattle.std.specs.Prelude.{All, Contains, filter, slice_index_or}
 use Rattle.std.proofs.lemmas.List.{length-map}
-use Rattle.std.proofs.lemmas.List.Elements.{All-append}
+use Rattle.std.proofs.lemmas.List.Elements.{All-append, All-cons, All-nil}
 use Rattle.cnf_core.specs.Literals.{Assignment, Literal, Literals}
 use Rattle.cnf_core.specs.Formulas.{Cnf, IsModel, is_shown, models, backbone, backbone_upto, shown_backbone}
 use Rattle.cnf_core.proofs.Shown.{shown_within}
@@ -109,12 +109,13 @@ unfolding backbone backbone_upto shown_backbone
 no_backbone F none = ap (λ (n : ℕ). filter (λ (l : Literal). is_shown F l.var) (backbone_upto F n)) none
 
 -- the report of a formula without variables
-pub lone_complete : (F : Cnf) (m : Assignment) (r : Report) → F.vars ≡ 0 → r.models ≡ with_model (empty_store F) m
+pub lone_complete : (F : Cnf) (m : Assignment) (r : Report) → F.vars ≡ 0 → IsModel F m → r.models ≡ with_model (empty_store F) m
     → r.drops.items ≡ [] → r.fixes.items ≡ [] → Proves F r.proof → IsTidy F r.proof → IsComplete F r
-lone_complete F m r none models drops fixes accepted tidy = record {
+lone_complete F m r none model models drops fixes accepted tidy = record {
   report = record {
     formula = ap (λ (s : Store). s.formula) models;
     some = omega (arith, ap (λ (s : Store). length s.models) models);
+    models = subst (λ (s : Store). All (IsModel F) s.models) (sym models) (All-cons (IsModel F) m [] model (All-nil (IsModel F)));
     drops_rise = λ i j d low high. absurd (omega (arith, ap length drops));
     fixes_rise = λ i j d low high. absurd (omega (arith, ap length fixes));
     apart = λ x dropped fixed. absurd (omega (arith, ap length drops, dropped.1, length-map r.drops.items (λ (w : Witness). w.var)));

@@ -1,7 +1,7 @@
 -- How a run ends, and what each end says.
-use Rattle.std.specs.Prelude.{◌≡◌, ℕ, ◌<◌, ◌≤◌, ◌⊎◌, IsTrue, IfSome, List, [], map, length, All, AllPairs, Contains}
+use Rattle.std.specs.Prelude.{◌≡◌, ℕ, ◌<◌, ◌⊎◌, IsTrue, IfSome, List, [], map, length, All, AllPairs, Contains}
 use Rattle.cnf_core.specs.Literals.{Literal, RisesByVar}
-use Rattle.cnf_core.specs.Formulas.{Cnf, is_shown, Entails, models, shown_backbone, true_literal}
+use Rattle.cnf_core.specs.Formulas.{Cnf, IsModel, is_shown, Entails, models, shown_backbone, true_literal}
 use Rattle.lrat_lines.specs.declared.line.Line.{Line}
 use Rattle.lrat_lines.specs.Proofs.{Proves}
 use Rattle.lrat_lines.specs.Tidy.{IsTidy}
@@ -43,6 +43,7 @@ HasFix r x = Contains (map (λ (l : Literal). l.var) r.fixes.items) x
 pub record IsReport (F : Cnf) (r : Report) : Type 0 where
   pub formula : r.models.formula ≡ F
   pub some : 0 < length r.models.models
+  pub models : All (IsModel F) r.models.models
   pub drops_rise : AllPairs (λ (w u : Witness). w.var < u.var) r.drops.items
   pub fixes_rise : RisesByVar r.fixes.items
   pub apart : (x : ℕ) → HasDrop r x → HasFix r x → ⊥

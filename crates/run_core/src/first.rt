@@ -38,7 +38,7 @@ pub(crate) fn search<'f>(
 ) -> Result<First<'f>, Outcome<'f>>
     requires budget { (1 ≤ settings.budget) × (settings.budget ≤ 2 ^ 40) }
     requires choosers { 1 ≤ length choosers.items }
-    ensures vars { IfOk result (λ first. 0 < formula.now.vars) }
+    ensures vars { IfOk result (λ first. (0 < formula.now.vars) × (formula.now.vars ≤ 2 ^ 20)) }
     ensures model { IfOk result (λ first. IsModel formula.now first.model) }
     ensures solver { IfOk result (λ first. IsFirst (about formula.now first.model) settings.budget first.solver) }
     ensures others { IfOk result (λ first. length choosers.items ≡ 1 + into_iter_len first.others) }
