@@ -67,6 +67,13 @@ impl<'f> Question<'f> {
         self.formula.vars()
     }
 
+    /// The model that the question was made for: it gives each candidate its phase.
+    pub fn phases(&self) -> &Values
+        ensures { result.now ≡ self.now.phases }
+    {
+        &self.phases
+    }
+
     /// The phase of a variable: its value in the model that the question was made for.
     pub fn phase(&self, var: u32) -> bool
         requires { (0 < var) × (var ≤ self.now.formula.vars) }
