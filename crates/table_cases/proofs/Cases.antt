@@ -8,11 +8,15 @@ use Rattle.cnf_core.proofs.Lists.{passes_of_list_all}
 use Rattle.board_core.specs.Subjects.{about, flag, candidate, Opposed, Entailed}
 use Rattle.table_cases.specs.Cases.{IsCase, IsOne}
 
-pub opposed_one : (F : Cnf) (phases other : Assignment) (x : ℕ) → IsCase F phases other → is_shown F x ≡ true
+pub candidate_of : (F : Cnf) (x : ℕ) → is_shown F x ≡ true → candidate F x ≡ 1
+unfolding candidate
+candidate_of F x shown = ap flag shown
+
+pub opposed_one : (F : Cnf) (phases other : Assignment) (x : ℕ) → IsCase F phases other → candidate F x ≡ 1
     → value_of other x ≡ not (value_of phases x) → IsOne (about F phases) (Opposed (about F phases)) x
-unfolding candidate Opposed
+unfolding Opposed
 opposed_one F phases other x is shown apart = record {
-  candidate = ap flag shown;
+  candidate = shown;
   holds = (other, record { is_model = is.other_model; opposite = apart });
 }
 
@@ -27,10 +31,10 @@ unit_entailed F l here =
     alone true is = refl
     alone false is = is
 
-pub given_one : (F : Cnf) (phases : Assignment) (x : ℕ) → is_shown F x ≡ true → Contains F.clauses (true_literal phases x ∷ [])
+pub given_one : (F : Cnf) (phases : Assignment) (x : ℕ) → candidate F x ≡ 1 → Contains F.clauses (true_literal phases x ∷ [])
     → IsOne (about F phases) (Entailed (about F phases)) x
-unfolding candidate Entailed
-given_one F phases x shown here = record { candidate = ap flag shown; holds = unit_entailed F (true_literal phases x) here }
+unfolding Entailed
+given_one F phases x shown here = record { candidate = shown; holds = unit_entailed F (true_literal phases x) here }
 
 pub differ : (a b : Bool) → not (beq a b) ≡ true → b ≡ not a
 differ true true ne = absurd (true≢false (sym ne))

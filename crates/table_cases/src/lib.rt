@@ -4,7 +4,7 @@
 
 ghost use Rattle.std.specs.Prelude.{◌≡◌, ℕ, ◌+◌, ◌*◌, ◌^◌, ◌<◌, ◌≤◌, suc, [], ◌∷◌, IsTrue, Contains};
 ghost use Rattle.std.specs.Int.{bit_at};
-ghost use Rattle.board_core.specs.Subjects.{about, groups, Opposed, Entailed};
+ghost use Rattle.board_core.specs.Subjects.{about, candidate, groups, Opposed, Entailed};
 ghost use Rattle.board_core.specs.Boards.{EachOf};
 ghost use Rattle.table_cases.specs.Cases.{IsCase, IsOne};
 
@@ -31,12 +31,21 @@ pub fn is_case(case: &Case) -> bool
         && is_model(&case.formula, &case.other)
 }
 
+/// Whether the variable is one of the formula's and shown.
+#[tactic(auto, using(crate::proofs::Cases::candidate_of))]
+fn is_candidate(formula: &Formula, var: u32) -> bool
+    ensures range { IsTrue result → (0 < var) × (var ≤ formula.now.vars) × (var ≤ 2 ^ 20) }
+    ensures candidate { IsTrue result → candidate formula.now var ≡ 1 }
+{
+    0 < var && var <= formula.vars() && formula.is_shown(var)
+}
+
 /// Whether the variable is shown, and the other model gives it the value opposite to its phase.
 fn is_opposed(case: &Case, var: u32) -> bool
     requires { IsCase case.now.formula case.now.phases case.now.other }
     ensures { IsTrue result → IsOne (about case.now.formula case.now.phases) (Opposed (about case.now.formula case.now.phases)) var }
 {
-    if !case.formula.is_shown(var) || var == 0 || case.formula.vars() < var {
+    if !is_candidate(&case.formula, var) {
         return false;
     }
     case.phases.get(var) != case.other.get(var)
@@ -67,7 +76,7 @@ fn is_given(case: &Case, var: u32) -> bool
     requires { IsCase case.now.formula case.now.phases case.now.other }
     ensures { IsTrue result → IsOne (about case.now.formula case.now.phases) (Entailed (about case.now.formula case.now.phases)) var }
 {
-    if !case.formula.is_shown(var) || var == 0 || case.formula.vars() < var {
+    if !is_candidate(&case.formula, var) {
         return false;
     }
     has_unit(&case.formula, Lit::new(var, case.phases.get(var)))
