@@ -1,5 +1,5 @@
 //! The runs: by one worker, and by many.
-ghost use Rattle.std.specs.Prelude.{◌≡◌, ◌^◌, ◌<◌, ◌≤◌, length, IfOk};
+ghost use Rattle.std.specs.Prelude.{◌≡◌, ◌+◌, ◌^◌, ◌<◌, ◌≤◌, length, IfOk};
 ghost use Rattle.std.specs.Vec.Iter.{into_iter_len};
 ghost use Rattle.cnf_core.specs.Formulas.{IsModel};
 ghost use Rattle.board_core.specs.Subjects.{about};

@@ -1,4 +1,4 @@
-use Rattle.std.proofs.Common.{ℕ, ◌-◌, length}
+use Rattle.std.proofs.Common.{◌-◌, length}
 use Rattle.run_core.specs.Steps.Crews.{IsSplitting}
 use Rattle.run_core.proofs.crew.split_seats.Given as goal
 

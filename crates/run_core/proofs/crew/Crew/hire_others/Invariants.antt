@@ -1,4 +1,4 @@
-use Rattle.std.proofs.Common.{◌≡◌, ℕ, ◌+◌, ◌≤◌}
+use Rattle.std.proofs.Common.{◌≡◌, ◌+◌, ◌≤◌}
 use Rattle.std.specs.Vec.Iter.{into_iter_len}
 use Rattle.run_core.specs.Steps.Crews.{IsHiring}
 use Rattle.run_core.proofs.crew.Crew.hire_others.Given as goal
