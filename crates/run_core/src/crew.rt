@@ -174,7 +174,7 @@ impl<'f, 'r> Crew<'f, 'r> {
         requires { IsCrew self.old.words self.old.settings.workers self.old.settings.budget self.old.slots.items }
         ensures settings { self.new.settings ≡ self.old.settings }
         ensures words { self.new.words ≡ self.old.words }
-        ensures returned { IsReturned self.old.words self.old.settings.workers self.old.settings.budget self.new.slots.items }
+        ensures returned { IsReturned self.new.words self.new.settings.workers self.new.settings.budget self.new.slots.items }
     {
         run_in_turn(&self.words, &NoGate, &mut self.slots);
     }
@@ -184,7 +184,7 @@ impl<'f, 'r> Crew<'f, 'r> {
         requires { IsCrew self.old.words self.old.settings.workers self.old.settings.budget self.old.slots.items }
         ensures settings { self.new.settings ≡ self.old.settings }
         ensures words { self.new.words ≡ self.old.words }
-        ensures returned { IsReturned self.old.words self.old.settings.workers self.old.settings.budget self.new.slots.items }
+        ensures returned { IsReturned self.new.words self.new.settings.workers self.new.settings.budget self.new.slots.items }
     {
         run_on_threads(rt, &self.words, gate, &mut self.slots);
     }
