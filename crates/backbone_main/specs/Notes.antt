@@ -8,8 +8,8 @@ use Rattle.dimacs_reader.specs.declared.fault.BadKind.{BadKind}
 use Rattle.dimacs_reader.specs.declared.fault.BadKind.TheVariants as kind
 use Rattle.dimacs_reader.specs.declared.fault.Fault.{Fault}
 use Rattle.backbone_main.specs.declared.ending.Ending.{Ending}
-use Rattle.backbone_main.specs.declared.ending.Ending.TheVariants.{Complete, Unsatisfiable, OutOfMemory, BadText, TooLong}
-use Rattle.backbone_main.specs.declared.ending.Ending.TheVariants.{LargeFormula, NotBuilt, ReadFault, WriteFault, OpenFault, Usage}
+use Rattle.backbone_main.specs.declared.ending.Ending.TheVariants.{Complete, Unsatisfiable, Unfinished, Unknown, OutOfMemory, BadText, TooLong}
+use Rattle.backbone_main.specs.declared.ending.Ending.TheVariants.{NotBuilt, ReadFault, WriteFault, OpenFault, Usage}
 
 -- the number of a kind of fault
 abbrev pub kind_number : BadKind → ℕ
@@ -37,7 +37,8 @@ note_of Unsatisfiable = []
 note_of OutOfMemory = codes "error: out of memory\n"
 note_of (BadText fault) = fault_note fault
 note_of TooLong = codes "error: text too long\n"
-note_of LargeFormula = []
+note_of Unfinished = []
+note_of Unknown = []
 note_of NotBuilt = []
 note_of ReadFault = codes "error: read failed: text\n"
 note_of WriteFault = codes "error: write failed: answer\n"

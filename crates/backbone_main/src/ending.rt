@@ -10,14 +10,16 @@ pub enum Ending {
     Complete,
     /// The formula has no model, and that was written.
     Unsatisfiable,
-    /// There was too little memory.
+    /// The formula has a model, and what is known of its backbone was written: every worker spent its budget.
+    Unfinished,
+    /// Whether the formula has a model was not found out within the budget, and that was written.
+    Unknown,
+    /// There was too little memory. What was known then of the backbone was written, or nothing.
     OutOfMemory,
     /// The text means no formula: this is its first fault.
     BadText(Fault),
     /// The text has more bytes than are read.
     TooLong,
-    /// The formula has more variables than the program can do yet.
-    LargeFormula,
     /// The words ask for what the program can't do yet.
     NotBuilt,
     /// The text could not be read.
@@ -38,10 +40,12 @@ impl Ending {
         match self {
             Ending::Complete => 10,
             Ending::Unsatisfiable => 20,
+            Ending::Unfinished => 30,
+            Ending::Unknown => 31,
             Ending::OutOfMemory => 40,
             Ending::BadText(_) => 50,
             Ending::TooLong => 51,
-            Ending::LargeFormula | Ending::NotBuilt => 52,
+            Ending::NotBuilt => 52,
             Ending::ReadFault => 60,
             Ending::WriteFault => 61,
             Ending::OpenFault => 62,

@@ -1,31 +1,50 @@
 //! The program `backbone`: the literals that all models of a formula make true.
 #![tactic(auto)]
 
-mod alone;
 mod ending;
+#[cfg(test)]
 mod enumeration;
+mod mixed;
 mod note;
+mod reply;
+mod serve;
+mod task;
 #[cfg(test)]
 mod tests;
 
-use crate::alone::{alone, report};
 use crate::ending::Ending;
+use crate::mixed::mixed_choosers;
+use crate::serve::{report, serve};
 use bone_desk::RealDesk;
+use cnf_core::NoMemory;
 use std::process::ExitCode;
+use std::thread::Threads;
 use std::{env, io};
+use worker_loop::NoGate;
 
 /// Runs the words of the command line over files and standard streams, and ends with the status.
 fn main(rt: HostRuntime) -> ExitCode {
-    ExitCode::from(run(rt))
+    match rt.clone() {
+        Ok(own) => ExitCode::from(run(&rt, own)),
+        Err(_) => ExitCode::from(Ending::OutOfMemory.code()),
+    }
 }
 
-fn run(rt: HostRuntime) -> u8 {
+fn run<T: Threads + Sync>(threads: &T, rt: HostRuntime) -> u8 {
     let alloc = rt.alloc();
     let words = given_words(&rt);
     let mut desk = RealDesk::new(rt);
-    match words {
-        Ok(words) => alone(alloc, words.as_slice(), &mut desk),
-        Err(ending) => report(&mut desk, ending),
+    match (words, mixed_choosers(alloc)) {
+        (Ok(words), Ok(choosers)) => serve(
+            threads,
+            alloc,
+            words.as_slice(),
+            &mut desk,
+            choosers,
+            &NoGate,
+        ),
+        (Err(ending), _) => report(&mut desk, ending),
+        (_, Err(NoMemory)) => report(&mut desk, Ending::OutOfMemory),
     }
 }
 

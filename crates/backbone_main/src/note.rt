@@ -31,9 +31,11 @@ fn push_note<D: Desk>(desk: &mut D, buffer: &mut PortBuffer, ending: Ending) -> 
     ensures err { OnErr result (CutOff (note_of ending) buffer.old (D.told desk.old) (D.told desk.new)) }
 {
     match ending {
-        Ending::Complete | Ending::Unsatisfiable | Ending::LargeFormula | Ending::NotBuilt => Ok(
-            (),
-        ),
+        Ending::Complete
+        | Ending::Unsatisfiable
+        | Ending::Unfinished
+        | Ending::Unknown
+        | Ending::NotBuilt => Ok(()),
         Ending::OutOfMemory => buffer.push(desk, b"error: out of memory\n"),
         Ending::BadText(fault) => push_fault(desk, buffer, fault),
         Ending::TooLong => buffer.push(desk, b"error: text too long\n"),

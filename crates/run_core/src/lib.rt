@@ -13,6 +13,8 @@ mod report;
 mod run;
 mod settings;
 mod slot;
+#[cfg(test)]
+mod tests;
 
 pub use outcome::{Outcome, Report};
 pub use run::{run_many, run_one};
