@@ -1,5 +1,5 @@
 //! Runs with several workers, small budgets, choosers that answer anything, and long proofs.
-use super::stand_ins::{Meeting, in_order, stubborn};
+use super::stand_ins::{Meeting, in_order, stubborn_choosers};
 use super::{NO_MODEL, desk_with, owned, run_both};
 use crate::mixed::mixed_choosers;
 use crate::serve::{alone, serve};
@@ -77,12 +77,12 @@ fn is_answered_by_stubborn<R: Abort + Threads + Sync>(
     let dropped = Arc::new(alloc, AtomicU64::new(0))?;
     let words = owned(alloc, list)?;
     let mut desk = desk_with(alloc, text, 64, 0)?;
-    let choosers = stubborn(alloc, number, &dropped)?;
+    let choosers = stubborn_choosers(alloc, number, &dropped)?;
     let status = serve(rt, alloc, words.as_slice(), &mut desk, choosers, &NoGate);
     assert_eq!(rt; (status, dropped.load(SeqCst)), (10, 16));
     assert_eq!(rt; desk.out_answer.as_slice(), answer);
     let mut desk = desk_with(alloc, text, 64, 0)?;
-    let choosers = stubborn(alloc, number, &dropped)?;
+    let choosers = stubborn_choosers(alloc, number, &dropped)?;
     let status = alone(alloc, words.as_slice(), &mut desk, choosers);
     assert_eq!(rt; (status, dropped.load(SeqCst)), (10, 32));
     assert_eq!(rt; desk.out_answer.as_slice(), answer);

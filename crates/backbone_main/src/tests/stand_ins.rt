@@ -56,7 +56,7 @@ impl Chooser for Stubborn {
 }
 
 /// Sixteen choosers that always pick this number, and count themselves where they are dropped.
-pub fn stubborn(
+pub fn stubborn_choosers(
     alloc: Global,
     number: u32,
     dropped: &Arc<AtomicU64>,
