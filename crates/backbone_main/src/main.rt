@@ -4,7 +4,6 @@
 mod ending;
 #[cfg(test)]
 mod enumeration;
-mod mixed;
 mod note;
 mod reply;
 mod serve;
@@ -13,10 +12,12 @@ mod task;
 mod tests;
 
 use crate::ending::Ending;
-use crate::mixed::mixed_choosers;
 use crate::serve::{report, serve};
-use bone_desk::RealDesk;
+use bone_desk::{Desk, RealDesk};
+use chooser_core::Chooser;
+use choosers::{OrderChooser, QueueChooser, RandomChooser};
 use cnf_core::NoMemory;
+use std::alloc::Global;
 use std::process::ExitCode;
 use std::thread::Threads;
 use std::{env, io};
@@ -34,18 +35,36 @@ fn run<T: Threads + Sync>(threads: &T, rt: HostRuntime) -> u8 {
     let alloc = rt.alloc();
     let words = given_words(&rt);
     let mut desk = RealDesk::new(rt);
-    match (words, mixed_choosers(alloc)) {
-        (Ok(words), Ok(choosers)) => serve(
-            threads,
-            alloc,
-            words.as_slice(),
-            &mut desk,
-            choosers,
-            &NoGate,
-        ),
-        (Err(ending), _) => report(&mut desk, ending),
-        (_, Err(NoMemory)) => report(&mut desk, Ending::OutOfMemory),
+    match words {
+        Ok(words) => match run_words(threads, alloc, words.as_slice(), &mut desk) {
+            Ok(status) => status,
+            Err(NoMemory) => report(&mut desk, Ending::OutOfMemory),
+        },
+        Err(ending) => report(&mut desk, ending),
     }
+}
+
+/// How many workers a run has at most.
+const MOST_WORKERS: usize = 16;
+
+/// Runs the words, with a chooser for each of sixteen workers: every second one prefers what conflicts met, and of the
+/// others every second one draws, and every second one takes the variables in order.
+fn run_words<T: Threads + Sync, D: Desk>(
+    threads: &T,
+    alloc: Global,
+    words: &[String],
+    desk: &mut D,
+) -> Result<u8, NoMemory> {
+    let mut choosers: Vec<Box<dyn Chooser>> = Vec::with_capacity(alloc, MOST_WORKERS)?;
+    for place in 0..MOST_WORKERS {
+        let chooser: Box<dyn Chooser> = match place % 4 {
+            0 | 2 => Box::new(alloc, QueueChooser::new(alloc))?,
+            1 => Box::new(alloc, RandomChooser::new())?,
+            _ => Box::new(alloc, OrderChooser::new())?,
+        };
+        choosers.push(chooser)?;
+    }
+    Ok(serve(threads, alloc, words, desk, choosers, &NoGate))
 }
 
 /// The words after the program's name. Where they can't be had as text, that is a fault of the words.

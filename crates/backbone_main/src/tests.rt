@@ -1,5 +1,5 @@
 //! Whole runs over desks in memory, with one worker and with several.
-ghost use Rattle.std.specs.Prelude.{◌≡◌, ◌≤◌, IfOk, length};
+ghost use Rattle.std.specs.Prelude.{◌≤◌};
 
 mod agreement;
 mod faults;
@@ -7,13 +7,15 @@ mod rows;
 mod runs;
 mod stand_ins;
 
-use crate::mixed::mixed_choosers;
 use crate::serve::{alone, serve};
-use bone_desk::MemDesk;
+use crate::tests::stand_ins::{How, Kind, Stubborn};
+use bone_desk::{Desk, MemDesk};
+use chooser_core::Chooser;
+use choosers::{OrderChooser, QueueChooser};
 use std::alloc::Global;
 use std::test::Fail;
 use std::thread::Threads;
-use worker_loop::NoGate;
+use worker_loop::{Gate, NoGate};
 
 const CHAIN: &[u8] = b"p cnf 3 3\n1 0\n-1 2 0\n2 3 0\n";
 
@@ -44,41 +46,54 @@ fn desk_with(alloc: Global, text: &[u8], piece: usize, fail: u64) -> Result<MemD
     Ok(desk)
 }
 
-/// What a run with one worker answers and leaves.
-fn run_alone(
+/// Runs the words over the desk, with sixteen choosers of this kind: with as many workers as the words say on threads of
+/// their own, or with one.
+fn run_words<R: Threads + Sync, D: Desk, G: Gate>(
+    rt: &R,
     alloc: Global,
     list: &[&str],
-    text: &[u8],
-    piece: usize,
-    fail: u64,
-) -> Result<(u8, MemDesk), Fail>
-    requires { 1 ≤ piece }
-{
+    desk: &mut D,
+    kind: &Kind,
+    gate: &G,
+    how: How,
+) -> Result<u8, Fail> {
     let words = owned(alloc, list)?;
-    let mut desk = desk_with(alloc, text, piece, fail)?;
-    let status = alone(alloc, words.as_slice(), &mut desk, mixed_choosers(alloc)?);
-    Ok((status, desk))
+    let mut choosers: Vec<Box<dyn Chooser>> = Vec::with_capacity(alloc, 16)?;
+    for _place in 0..16 {
+        let chooser: Box<dyn Chooser> = match kind {
+            Kind::InOrder => Box::new(alloc, OrderChooser::new())?,
+            Kind::Queue => Box::new(alloc, QueueChooser::new(alloc))?,
+            Kind::Stubborn { number, dropped } => Box::new(
+                alloc,
+                Stubborn::new(*number, dropped.clone()?),
+            )?,
+        };
+        choosers.push(chooser)?;
+    }
+    Ok(match how {
+        How::Alone => alone(alloc, words.as_slice(), desk, choosers),
+        How::Served => serve(rt, alloc, words.as_slice(), desk, choosers, gate),
+    })
 }
 
-/// What a run with as many workers as the words say answers and leaves.
-fn run_served<R: Threads + Sync>(
+/// What a run over the text answers and leaves, where the call with this number fails.
+fn run_text<R: Threads + Sync>(
     rt: &R,
     alloc: Global,
     list: &[&str],
     text: &[u8],
     piece: usize,
     fail: u64,
+    how: How,
 ) -> Result<(u8, MemDesk), Fail>
     requires { 1 ≤ piece }
 {
-    let words = owned(alloc, list)?;
     let mut desk = desk_with(alloc, text, piece, fail)?;
-    let choosers = mixed_choosers(alloc)?;
-    let status = serve(rt, alloc, words.as_slice(), &mut desk, choosers, &NoGate);
+    let status = run_words(rt, alloc, list, &mut desk, &Kind::Queue, &NoGate, how)?;
     Ok((status, desk))
 }
 
-/// Both runs.
+/// A run with one worker, and one with as many as the words say.
 fn run_both<R: Threads + Sync>(
     rt: &R,
     alloc: Global,
@@ -89,7 +104,7 @@ fn run_both<R: Threads + Sync>(
     requires { 1 ≤ piece }
 {
     Ok([
-        run_alone(alloc, list, text, piece, 0)?,
-        run_served(rt, alloc, list, text, piece, 0)?,
+        run_text(rt, alloc, list, text, piece, 0, How::Alone)?,
+        run_text(rt, alloc, list, text, piece, 0, How::Served)?,
     ])
 }

@@ -1,12 +1,11 @@
 //! Runs over worked formulas, with one worker and with three.
-ghost use Rattle.std.specs.Prelude.{◌≡◌, IfOk, length};
-
 use crate::{Outcome, Report, RunSettings, run_many, run_one};
 use chooser_core::Chooser;
 use choosers::OrderChooser;
 use cnf_core::Formula;
 use std::alloc::Global;
 use std::test::Fail;
+use std::thread::Threads;
 use worker_loop::NoGate;
 
 const SETTINGS: RunSettings = RunSettings {
@@ -15,16 +14,23 @@ const SETTINGS: RunSettings = RunSettings {
     seed: 0,
 };
 
-/// Three choosers that take the variables in order.
-fn choosers(alloc: Global) -> Result<Vec<Box<dyn Chooser>>, Fail>
-    ensures { IfOk result (λ all. length all.items ≡ 3) }
-{
-    let mut all = Vec::with_capacity(alloc, 3)?;
-    for _ in 0..3 {
+/// How a run with one worker ends, or with three on threads of their own. The choosers take the variables in order.
+fn run<'f, R: Threads + Sync>(
+    rt: &R,
+    alloc: Global,
+    formula: &'f Formula,
+    workers: u32,
+) -> Result<Outcome<'f>, Fail> {
+    let mut choosers: Vec<Box<dyn Chooser>> = Vec::with_capacity(alloc, 3)?;
+    for _place in 0..3 {
         let chooser: Box<dyn Chooser> = Box::new(alloc, OrderChooser::new())?;
-        all.push(chooser)?;
+        choosers.push(chooser)?;
     }
-    Ok(all)
+    Ok(if workers == 1 {
+        run_one(alloc, formula, SETTINGS, choosers)
+    } else {
+        run_many(rt, alloc, formula, SETTINGS, choosers, &NoGate)
+    })
 }
 
 /// The report of a complete run.
@@ -57,7 +63,7 @@ fn drops(alloc: Global, report: &Report) -> Result<Vec<u32>, Fail> {
 fn a_literal_that_no_clause_names_alone_is_fixed_by_one_line(rt: HostRuntime) -> Result<(), Fail> {
     let alloc = rt.alloc();
     let formula = Formula::of_numbers(alloc, 2, &[1, 2, 0, 1, -2, 0])?;
-    let report = complete(run_one(alloc, &formula, SETTINGS, choosers(alloc)?))?;
+    let report = complete(run(&rt, alloc, &formula, 1)?)?;
     assert_eq!(rt; fixes(alloc, &report)?.as_slice(), [1].as_slice());
     assert_eq!(rt; drops(alloc, &report)?.as_slice(), [2].as_slice());
     let mut hints = Vec::new(alloc);
@@ -75,8 +81,8 @@ fn a_literal_that_no_clause_names_alone_is_fixed_by_one_line(rt: HostRuntime) ->
 fn three_workers_find_what_one_finds(rt: HostRuntime) -> Result<(), Fail> {
     let alloc = rt.alloc();
     let formula = Formula::of_numbers(alloc, 35, &[32, 0, -33, 0, 34, 35, 0])?;
-    let alone = complete(run_one(alloc, &formula, SETTINGS, choosers(alloc)?))?;
-    let many = complete(run_many(&rt, alloc, &formula, SETTINGS, choosers(alloc)?, &NoGate))?;
+    let alone = complete(run(&rt, alloc, &formula, 1)?)?;
+    let many = complete(run(&rt, alloc, &formula, 3)?)?;
     assert_eq!(rt; fixes(alloc, &alone)?.as_slice(), [32, -33].as_slice());
     assert_eq!(rt; fixes(alloc, &many)?.as_slice(), [32, -33].as_slice());
     assert_eq!(rt;

@@ -1,12 +1,12 @@
 //! Texts, words and desks at fault, and the notes on them.
 ghost use Rattle.std.specs.Prelude.{◌≡◌, vec_len, IfOk};
 
-use super::{CHAIN, CHAIN_ANSWER, EMPTY_ANSWER, USAGE, owned, run_alone, run_both, run_served};
-use crate::mixed::mixed_choosers;
-use crate::serve::alone;
+use super::stand_ins::{How, Kind};
+use super::{CHAIN, CHAIN_ANSWER, EMPTY_ANSWER, USAGE, run_both, run_text, run_words};
 use bone_desk::MemDesk;
 use std::alloc::{AllocError, Global};
 use std::test::Fail;
+use worker_loop::NoGate;
 
 #[test]
 fn each_faulty_text_is_refused_with_its_kind_and_place(rt: HostRuntime) -> Result<(), Fail> {
@@ -60,8 +60,8 @@ fn each_fault_has_its_status_and_its_note(rt: HostRuntime) -> Result<(), Fail> {
     ];
     for (fail, status, given, note) in rows {
         for (number, desk) in [
-            run_alone(alloc, &["extract", "f"], CHAIN, 5, fail)?,
-            run_served(&rt, alloc, &["extract", "f"], CHAIN, 5, fail)?,
+            run_text(&rt, alloc, &["extract", "f"], CHAIN, 5, fail, How::Alone)?,
+            run_text(&rt, alloc, &["extract", "f"], CHAIN, 5, fail, How::Served)?,
         ] {
             assert_eq!(rt; number, status);
             assert_eq!(rt; desk.out_answer.as_slice(), &CHAIN_ANSWER[..given]);
@@ -123,7 +123,7 @@ fn a_fault_of_the_note_changes_no_status(rt: HostRuntime) -> Result<(), Fail> {
     ];
     // One open, and three reads of at most 5 of the 8 bytes.
     for (list, text, fail, status, note) in rows {
-        let (number, desk) = run_alone(alloc, list, text, 5, fail)?;
+        let (number, desk) = run_text(&rt, alloc, list, text, 5, fail, How::Alone)?;
         assert_eq!(rt; number, status);
         assert_eq!(rt; desk.out_notes.as_slice(), note);
         assert_eq!(rt;
@@ -151,12 +151,20 @@ fn long_text(alloc: Global, count: usize) -> Result<Vec<u8>, AllocError> {
 #[test]
 fn two_to_the_27_bytes_are_read_and_one_more_is_too_long(rt: HostRuntime) -> Result<(), Fail> {
     let alloc = rt.alloc();
-    let words = owned(alloc, &["extract", "f"])?;
+    let list = ["extract", "f"];
     let mut desk = MemDesk::new(alloc, 1_000_000, 1000)?;
     desk.text = long_text(alloc, 134_217_718)?;
     assert_eq!(rt; desk.text.len(), 134_217_728);
     assert_eq!(rt;
-        alone(alloc, words.as_slice(), &mut desk, mixed_choosers(alloc)?),
+        run_words(
+            &rt,
+            alloc,
+            &list,
+            &mut desk,
+            &Kind::Queue,
+            &NoGate,
+            How::Alone
+        )?,
         10
     );
     assert_eq!(rt; desk.out_answer.as_slice(), EMPTY_ANSWER);
@@ -164,7 +172,15 @@ fn two_to_the_27_bytes_are_read_and_one_more_is_too_long(rt: HostRuntime) -> Res
     let mut desk = MemDesk::new(alloc, 1_000_000, 1000)?;
     desk.text = long_text(alloc, 134_217_719)?;
     assert_eq!(rt;
-        alone(alloc, words.as_slice(), &mut desk, mixed_choosers(alloc)?),
+        run_words(
+            &rt,
+            alloc,
+            &list,
+            &mut desk,
+            &Kind::Queue,
+            &NoGate,
+            How::Alone
+        )?,
         51
     );
     assert_eq!(rt;

@@ -1,12 +1,12 @@
 //! Worked texts and what is written of them.
-use super::{CHAIN, CHAIN_ANSWER, EMPTY_ANSWER, NO_MODEL, owned, run_both};
-use crate::mixed::mixed_choosers;
-use crate::serve::alone;
-use bone_desk::{MemDesk, NamedDesk};
-use std::alloc::{AllocError, Global};
+use super::stand_ins::{How, Kind};
+use super::{CHAIN, CHAIN_ANSWER, EMPTY_ANSWER, NO_MODEL, run_both, run_words};
+use bone_desk::NamedDesk;
+use std::alloc::Global;
 use std::process::Abort;
 use std::test::Fail;
 use std::thread::Threads;
+use worker_loop::NoGate;
 
 /// The text is answered so, in pieces of some sizes, with one worker and with four.
 fn is_answered<R: Abort + Threads + Sync>(
@@ -123,12 +123,19 @@ fn the_text_of_the_given_name_is_read_and_no_other(rt: HostRuntime) -> Result<()
         ),
     ];
     for (list, status, answer) in rows {
-        let words = owned(alloc, list)?;
         let mut desk = NamedDesk::new(alloc);
         desk.put("a", CHAIN)?;
         desk.put("b", b"p cnf 1 1\n0\n")?;
         desk.input = b"p cnf 0 0\n".to_vec(alloc)?;
-        let number = alone(alloc, words.as_slice(), &mut desk, mixed_choosers(alloc)?);
+        let number = run_words(
+            &rt,
+            alloc,
+            list,
+            &mut desk,
+            &Kind::Queue,
+            &NoGate,
+            How::Alone,
+        )?;
         assert_eq!(rt; number, status, "{list:?}");
         assert_eq!(rt; desk.out_answer.as_slice(), answer, "{list:?}");
     }

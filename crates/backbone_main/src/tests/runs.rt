@@ -1,8 +1,6 @@
 //! Runs with several workers, small budgets, choosers that answer anything, and long proofs.
-use super::stand_ins::{Meeting, in_order, stubborn_choosers};
-use super::{NO_MODEL, desk_with, owned, run_both};
-use crate::mixed::mixed_choosers;
-use crate::serve::{alone, serve};
+use super::stand_ins::{How, Kind, Meeting};
+use super::{NO_MODEL, desk_with, run_both, run_words};
 use bone_desk::MemDesk;
 use std::alloc::Global;
 use std::process::Abort;
@@ -75,17 +73,16 @@ fn is_answered_by_stubborn<R: Abort + Threads + Sync>(
     answer: &[u8],
 ) -> Result<(), Fail> {
     let dropped = Arc::new(alloc, AtomicU64::new(0))?;
-    let words = owned(alloc, list)?;
-    let mut desk = desk_with(alloc, text, 64, 0)?;
-    let choosers = stubborn_choosers(alloc, number, &dropped)?;
-    let status = serve(rt, alloc, words.as_slice(), &mut desk, choosers, &NoGate);
-    assert_eq!(rt; (status, dropped.load(SeqCst)), (10, 16));
-    assert_eq!(rt; desk.out_answer.as_slice(), answer);
-    let mut desk = desk_with(alloc, text, 64, 0)?;
-    let choosers = stubborn_choosers(alloc, number, &dropped)?;
-    let status = alone(alloc, words.as_slice(), &mut desk, choosers);
-    assert_eq!(rt; (status, dropped.load(SeqCst)), (10, 32));
-    assert_eq!(rt; desk.out_answer.as_slice(), answer);
+    let kind = Kind::Stubborn {
+        number,
+        dropped: dropped.clone()?,
+    };
+    for (how, count) in [(How::Served, 16), (How::Alone, 32)] {
+        let mut desk = desk_with(alloc, text, 64, 0)?;
+        let status = run_words(rt, alloc, list, &mut desk, &kind, &NoGate, how)?;
+        assert_eq!(rt; (status, dropped.load(SeqCst)), (10, count));
+        assert_eq!(rt; desk.out_answer.as_slice(), answer);
+    }
     Ok(())
 }
 
@@ -108,11 +105,18 @@ fn choosers_that_answer_anything_change_no_byte_and_are_dropped(
 #[test]
 fn two_workers_run_beside_one_another(rt: HostRuntime) -> Result<(), Fail> {
     let alloc = rt.alloc();
-    let words = owned(alloc, &["extract", "--workers=2", "f"])?;
+    let list = ["extract", "--workers=2", "f"];
     let mut desk = desk_with(alloc, TWO_FORCED, 64, 0)?;
     let meeting = Meeting::new();
-    let choosers = mixed_choosers(alloc)?;
-    let status = serve(&rt, alloc, words.as_slice(), &mut desk, choosers, &meeting);
+    let status = run_words(
+        &rt,
+        alloc,
+        &list,
+        &mut desk,
+        &Kind::Queue,
+        &meeting,
+        How::Served,
+    )?;
     assert_eq!(rt; (status, meeting.missed.load(SeqCst)), (10, false));
     assert_eq!(rt; desk.out_answer.as_slice(), TWO_FORCED_ANSWER);
     Ok(())
@@ -157,17 +161,33 @@ fn pigeons(alloc: Global, header: &[u8], holes: i64) -> Result<Vec<u8>, Fail>
 #[test]
 fn seven_pigeons_fit_no_six_holes(rt: HostRuntime) -> Result<(), Fail> {
     let alloc = rt.alloc();
-    let words = owned(alloc, &["extract", "f"])?;
     let mut desk = MemDesk::new(alloc, 64, 1000)?;
     desk.text = pigeons(alloc, b"p cnf 42 133\n", 6)?;
-    let status = alone(alloc, words.as_slice(), &mut desk, in_order(alloc)?);
+    let list = ["extract", "f"];
+    let status = run_words(
+        &rt,
+        alloc,
+        &list,
+        &mut desk,
+        &Kind::InOrder,
+        &NoGate,
+        How::Alone,
+    )?;
     assert_eq!(rt; status, 20);
     assert_eq!(rt; desk.out_answer.as_slice(), NO_MODEL);
 
-    let words = owned(alloc, &["extract", "--budget=20000", "f"])?;
+    let list = ["extract", "--budget=20000", "f"];
     let mut desk = MemDesk::new(alloc, 64, 1000)?;
     desk.text = pigeons(alloc, b"p cnf 56 204\n", 7)?;
-    match alone(alloc, words.as_slice(), &mut desk, in_order(alloc)?) {
+    match run_words(
+        &rt,
+        alloc,
+        &list,
+        &mut desk,
+        &Kind::InOrder,
+        &NoGate,
+        How::Alone,
+    )? {
         20 => assert_eq!(rt; desk.out_answer.as_slice(), NO_MODEL),
         status => {
             assert_eq!(rt; status, 31);

@@ -1,18 +1,16 @@
 //! Choosers and gates by which tests watch a run.
-ghost use Rattle.std.specs.Prelude.{◌≡◌, IfOk, length};
+ghost use Rattle.std.specs.Prelude.{◌≡◌};
 ghost use Rattle.chooser_core.specs.Choosing.{IsLeastFree, once_more};
 
 use chooser_core::Chooser;
 use cnf_core::NoMemory;
-use std::alloc::Global;
 use std::sync::Arc;
 use std::sync::atomic::Ordering::SeqCst;
 use std::sync::atomic::{AtomicBool, AtomicU64};
-use std::test::Fail;
 use worker_loop::Gate;
 
 /// Always picks one number, and counts itself where it is dropped.
-struct Stubborn {
+pub struct Stubborn {
     number: u32,
     asked: u64,
     dropped: Arc<AtomicU64>,
@@ -55,39 +53,38 @@ impl Chooser for Stubborn {
     }
 }
 
-/// Sixteen choosers that always pick this number, and count themselves where they are dropped.
-pub fn stubborn_choosers(
-    alloc: Global,
-    number: u32,
-    dropped: &Arc<AtomicU64>,
-) -> Result<Vec<Box<dyn Chooser>>, Fail>
-    ensures { IfOk result (λ choosers. length choosers.items ≡ 16) }
-{
-    let mut choosers = Vec::with_capacity(alloc, 16)?;
-    for _ in 0..16 {
-        let chooser: Box<dyn Chooser> = Box::new(
-            alloc,
-            Stubborn {
-                number,
-                asked: 0,
-                dropped: dropped.clone()?,
-            },
-        )?;
-        choosers.push(chooser)?;
+impl Stubborn {
+    /// One that wasn't asked yet.
+    pub fn new(number: u32, dropped: Arc<AtomicU64>) -> Stubborn {
+        Stubborn {
+            number,
+            asked: 0,
+            dropped,
+        }
     }
-    Ok(choosers)
 }
 
-/// Sixteen choosers that pick the least variable without a value.
-pub fn in_order(alloc: Global) -> Result<Vec<Box<dyn Chooser>>, Fail>
-    ensures { IfOk result (λ choosers. length choosers.items ≡ 16) }
-{
-    let mut choosers = Vec::with_capacity(alloc, 16)?;
-    for _ in 0..16 {
-        let chooser: Box<dyn Chooser> = Box::new(alloc, choosers::OrderChooser::new())?;
-        choosers.push(chooser)?;
-    }
-    Ok(choosers)
+/// Which choosers a run has.
+#[derive(Drop)]
+pub enum Kind {
+    /// The least variable without a value.
+    InOrder,
+    /// What conflicts met last.
+    Queue,
+    /// Always this number, counted where they are dropped.
+    Stubborn {
+        number: u32,
+        dropped: Arc<AtomicU64>,
+    },
+}
+
+/// How a run goes.
+#[derive(Clone, Copy)]
+pub enum How {
+    /// With one worker.
+    Alone,
+    /// With as many workers as the words say.
+    Served,
 }
 
 /// At its first turn each of two workers raises its flag and looks for the other's so many times.

@@ -1,6 +1,6 @@
 -- So many choosers as places were gone through.
 use Rattle.std.proofs.Common.{◌≡◌, length}
-use Rattle.backbone_main.proofs.mixed.mixed_choosers.Given as goal
+use Rattle.backbone_main.proofs.run_words.Given as goal
 
 abbrev pub invariant-loop-place : goal.invariant-loop-place
 invariant-loop-place g l = length l.choosers.items ≡ l.place
