@@ -1,11 +1,9 @@
 //! Generated formulas of up to twelve variables, whose assignments are all looked at.
-ghost use Rattle.std.specs.Prelude.{◌≤◌, IfOk};
+ghost use Rattle.std.specs.Prelude.{◌≤◌};
 
-use super::run_both;
+use super::{NO_MODEL, run_both};
 use crate::enumeration::{MOST_VARS, solve};
-use answer_text::{Answer, write_answer};
-use bone_desk::MemDesk;
-use cnf_core::{Formula, Lit};
+use cnf_core::Formula;
 use samples::Draws;
 use std::alloc::Global;
 use std::test::Fail;
@@ -39,18 +37,23 @@ fn text_of(alloc: Global, vars: u32, clauses: u32, numbers: &[i32]) -> Result<Ve
     Ok(text)
 }
 
-/// The status and the answer by all assignments.
-fn expected(alloc: Global, formula: &Formula) -> Result<(u8, MemDesk), Fail> {
-    let mut desk = MemDesk::new(alloc, 64, 1000)?;
+/// The status and the answer's text by all assignments.
+fn expected(alloc: Global, formula: &Formula) -> Result<(u8, Vec<u8>), Fail> {
     if formula.vars() > MOST_VARS {
         return Err(Fail::from("too many variables"));
     }
-    let (status, answer) = match solve(alloc, formula)? {
-        Some(fixed) => (10, Answer::Sat(fixed)),
-        None => (20, Answer::Unsat),
+    let Some(fixed) = solve(alloc, formula)? else {
+        return Ok((20, NO_MODEL.to_vec(alloc)?));
     };
-    let _ = write_answer(&mut desk, &answer);
-    Ok((status, desk))
+    let mut digits = itoa::Buffer::new();
+    let mut text = b"s SATISFIABLE\n".to_vec(alloc)?;
+    for lit in &fixed {
+        text.extend_from_slice(b"b ")?;
+        text.extend_from_slice(digits.format(lit.number()).as_bytes())?;
+        text.push(b'\n')?;
+    }
+    text.extend_from_slice(b"b 0\n")?;
+    Ok((10, text))
 }
 
 #[test]
@@ -66,11 +69,7 @@ fn runs_agree_with_all_assignments_of_generated_formulas(rt: HostRuntime) -> Res
         let text = text_of(alloc, vars, clauses, &numbers)?;
         for (number, desk) in run_both(&rt, alloc, &["extract", "f"], &text, 64)? {
             assert_eq!(rt; number, status, "{numbers:?}");
-            assert_eq!(rt;
-                desk.out_answer.as_slice(),
-                known.out_answer.as_slice(),
-                "{numbers:?}"
-            );
+            assert_eq!(rt; desk.out_answer.as_slice(), known.as_slice(), "{numbers:?}");
         }
     }
     Ok(())

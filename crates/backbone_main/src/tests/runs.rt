@@ -1,4 +1,6 @@
 //! Runs with several workers, small budgets, choosers that answer anything, and long proofs.
+ghost use Rattle.std.specs.Prelude.{◌≤◌};
+
 use super::stand_ins::{How, Kind, Meeting};
 use super::{NO_MODEL, desk_with, run_both, run_words};
 use bone_desk::MemDesk;
@@ -134,24 +136,25 @@ fn push_clause(text: &mut Vec<u8>, numbers: &[i64]) -> Result<(), Fail> {
 }
 
 /// Each of so many pigeons sits in one of the holes, which are one fewer, and no two in the same.
-fn pigeons(alloc: Global, header: &[u8], holes: i64) -> Result<Vec<u8>, Fail>
+fn pigeons(alloc: Global, header: &[u8], holes: u32) -> Result<Vec<u8>, Fail>
     requires { holes ≤ 9 }
 {
     let mut text = header.to_vec(alloc)?;
     for pigeon in 0..=holes {
-        let mut holes_of = Vec::new(alloc);
+        let mut sits = Vec::new(alloc);
         for hole in 1..=holes {
-            holes_of.push(holes * pigeon + hole)?;
+            sits.push(i64::from(holes * pigeon + hole))?;
         }
-        push_clause(&mut text, &holes_of)?;
+        push_clause(&mut text, &sits)?;
     }
     for hole in 1..=holes {
         for second in 1..=holes {
             for first in 0..second {
-                push_clause(
-                    &mut text,
-                    &[-(holes * first + hole), -(holes * second + hole)],
-                )?;
+                let apart = [
+                    -i64::from(holes * first + hole),
+                    -i64::from(holes * second + hole),
+                ];
+                push_clause(&mut text, &apart)?;
             }
         }
     }

@@ -39,9 +39,8 @@ impl Chooser for Stubborn {
         requires { IsLeastFree values.now free }
         ensures { self.new.asked ≡ once_more self.old.asked }
     {
-        let _ = (values, free);
         self.asked = self.asked.saturating_add(1);
-        self.number
+        if values.is_empty() { free } else { self.number }
     }
 
     fn bump(&mut self, _var: u32) {}
