@@ -59,10 +59,11 @@ fn run_words<R: Threads + Sync, D: Desk, G: Gate>(
 ) -> Result<u8, Fail> {
     let words = owned(alloc, list)?;
     let mut choosers: Vec<Box<dyn Chooser>> = Vec::with_capacity(alloc, 16)?;
-    for _place in 0..16 {
+    for place in 0..16 {
         let chooser: Box<dyn Chooser> = match kind {
             Kind::InOrder => Box::new(alloc, OrderChooser::new())?,
-            Kind::Queue => Box::new(alloc, QueueChooser::new(alloc))?,
+            Kind::Mixed if place % 2 == 0 => Box::new(alloc, QueueChooser::new(alloc))?,
+            Kind::Mixed => Box::new(alloc, OrderChooser::new())?,
             Kind::Stubborn { number, dropped } => Box::new(
                 alloc,
                 Stubborn::new(*number, dropped.clone()?),
@@ -89,7 +90,7 @@ fn run_text<R: Threads + Sync>(
     requires { 1 ≤ piece }
 {
     let mut desk = desk_with(alloc, text, piece, fail)?;
-    let status = run_words(rt, alloc, list, &mut desk, &Kind::Queue, &NoGate, how)?;
+    let status = run_words(rt, alloc, list, &mut desk, &Kind::Mixed, &NoGate, how)?;
     Ok((status, desk))
 }
 

@@ -1,7 +1,7 @@
 //! Runs over worked formulas, with one worker and with three.
 use crate::{Outcome, Report, RunSettings, run_many, run_one};
 use chooser_core::Chooser;
-use choosers::OrderChooser;
+use choosers::{OrderChooser, QueueChooser};
 use cnf_core::Formula;
 use std::alloc::Global;
 use std::test::Fail;
@@ -14,7 +14,8 @@ const SETTINGS: RunSettings = RunSettings {
     seed: 0,
 };
 
-/// How a run with one worker ends, or with three on threads of their own. The choosers take the variables in order.
+/// How a run with one worker ends, or with three on threads of their own. The second chooser
+/// prefers what conflicts met, the others take the variables in order.
 fn run<'f, R: Threads + Sync>(
     rt: &R,
     alloc: Global,
@@ -22,8 +23,12 @@ fn run<'f, R: Threads + Sync>(
     workers: u32,
 ) -> Result<Outcome<'f>, Fail> {
     let mut choosers: Vec<Box<dyn Chooser>> = Vec::with_capacity(alloc, 3)?;
-    for _place in 0..3 {
-        let chooser: Box<dyn Chooser> = Box::new(alloc, OrderChooser::new())?;
+    for place in 0..3 {
+        let chooser: Box<dyn Chooser> = if place == 1 {
+            Box::new(alloc, QueueChooser::new(alloc))?
+        } else {
+            Box::new(alloc, OrderChooser::new())?
+        };
         choosers.push(chooser)?;
     }
     Ok(if workers == 1 {

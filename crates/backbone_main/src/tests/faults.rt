@@ -161,7 +161,7 @@ fn two_to_the_27_bytes_are_read_and_one_more_is_too_long(rt: HostRuntime) -> Res
             alloc,
             &list,
             &mut desk,
-            &Kind::Queue,
+            &Kind::Mixed,
             &NoGate,
             How::Alone
         )?,
@@ -177,7 +177,7 @@ fn two_to_the_27_bytes_are_read_and_one_more_is_too_long(rt: HostRuntime) -> Res
             alloc,
             &list,
             &mut desk,
-            &Kind::Queue,
+            &Kind::Mixed,
             &NoGate,
             How::Alone
         )?,

@@ -132,7 +132,7 @@ fn the_text_of_the_given_name_is_read_and_no_other(rt: HostRuntime) -> Result<()
             alloc,
             list,
             &mut desk,
-            &Kind::Queue,
+            &Kind::Mixed,
             &NoGate,
             How::Alone,
         )?;

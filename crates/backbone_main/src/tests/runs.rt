@@ -115,7 +115,7 @@ fn two_workers_run_beside_one_another(rt: HostRuntime) -> Result<(), Fail> {
         alloc,
         &list,
         &mut desk,
-        &Kind::Queue,
+        &Kind::Mixed,
         &meeting,
         How::Served,
     )?;

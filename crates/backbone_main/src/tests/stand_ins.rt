@@ -68,8 +68,8 @@ impl Stubborn {
 pub enum Kind {
     /// The least variable without a value.
     InOrder,
-    /// What conflicts met last.
-    Queue,
+    /// At the even places what conflicts met last, at the others the least variable without a value.
+    Mixed,
     /// Always this number, counted where they are dropped.
     Stubborn {
         number: u32,

@@ -2,5 +2,5 @@
 use Rattle.std.proofs.Common.{◌≡◌, length}
 use Rattle.run_core.proofs.tests.run.Given as goal
 
-abbrev pub invariant-loop-_place : goal.invariant-loop-_place
-invariant-loop-_place g l = length l.choosers.items ≡ l._place
+abbrev pub invariant-loop-place : goal.invariant-loop-place
+invariant-loop-place g l = length l.choosers.items ≡ l.place
