@@ -59,7 +59,7 @@ fn run_words<R: Threads + Sync, D: Desk, G: Gate>(
 ) -> Result<u8, Fail> {
     let words = owned(alloc, list)?;
     let mut choosers: Vec<Box<dyn Chooser>> = Vec::with_capacity(alloc, 16)?;
-    for place in 0..16 {
+    for place in 0..16_usize {
         let chooser: Box<dyn Chooser> = match kind {
             Kind::InOrder => Box::new(alloc, OrderChooser::new())?,
             Kind::Mixed if place % 2 == 0 => Box::new(alloc, QueueChooser::new(alloc))?,

@@ -23,7 +23,7 @@ fn run<'f, R: Threads + Sync>(
     workers: u32,
 ) -> Result<Outcome<'f>, Fail> {
     let mut choosers: Vec<Box<dyn Chooser>> = Vec::with_capacity(alloc, 3)?;
-    for place in 0..3 {
+    for place in 0..3_usize {
         let chooser: Box<dyn Chooser> = if place == 1 {
             Box::new(alloc, QueueChooser::new(alloc))?
         } else {
