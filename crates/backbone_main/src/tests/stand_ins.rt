@@ -4,6 +4,7 @@ ghost use Rattle.chooser_core.specs.Choosing.{IsLeastFree, once_more};
 
 use chooser_core::Chooser;
 use cnf_core::NoMemory;
+use std::hint;
 use std::sync::Arc;
 use std::sync::atomic::Ordering::SeqCst;
 use std::sync::atomic::{AtomicBool, AtomicU64};
@@ -114,6 +115,7 @@ impl Meeting {
             if other.load(SeqCst) {
                 return;
             }
+            hint::spin_loop();
         }
         self.missed.store(true, SeqCst);
     }
