@@ -15,7 +15,7 @@ abbrev behind : Bool → ℕ → List Line → List Line
 behind t b ls = if t then record { bytes = []; ended = true } ∷ ls else with_byte b ls
 
 pub lines_byte : (b : ℕ) (bs : List ℕ) → b ≢ 10 → lines_of (b ∷ bs) ≡ with_byte b (lines_of bs)
-lines_byte b bs no = ap (λ (t : Bool). behind t b (lines_of bs)) (ne_eqb b 10 no)
+lines_byte b bs other = ap (λ (t : Bool). behind t b (lines_of bs)) (ne_eqb b 10 other)
 
 -- a line with its line feed stands before the lines of the rest
 pub lines_ended : (bytes rest : List ℕ) → IsPlain bytes

@@ -1,3 +1,4 @@
+use Rattle.text_lines.proofs.Lines.{lines_few, lines_join, front_line}
 -- What is ahead begins behind the line.
 use Rattle.std.proofs.Common.{◌≡◌, ◌≤◌, ◌+◌, ◌-◌, List, ℕ, length, drop, take, ap, ◌∙◌, arith, length-take, length-drop}
 use Rattle.text_lines.specs.Steps.Window.{Held}
