@@ -1,7 +1,7 @@
 -- The rest of a feed, which nobody looks at.
-use Rattle.std.proofs.Common.{◌≡◌, ℕ, ◌+◌, ◌≤◌, Bool, true, false, List, [], ◌∷◌, ◌++◌, length, Ok, Err, refl, sym, ◌∙◌, ap, subst, arith, inl, inr}
+use Rattle.std.proofs.Common.{◌≡◌, ℕ, ◌+◌, Bool, true, false, List, [], ◌++◌, length, Ok, Err, refl, ◌∙◌, ap, subst, arith}
 use Rattle.std.proofs.lemmas.List.{append-nil, length-append}
-use Rattle.std.proofs.lemmas.Bool.{both_ways, cases_Bool}
+use Rattle.std.proofs.lemmas.Bool.{both_ways}
 use Rattle.bone_desk.specs.Told.{Told, AtEnd, Rose}
 use Rattle.bone_desk.specs.declared.desk.Feed.{Feed}
 use Rattle.bone_desk.specs.declared.desk.Act.TheVariants.{Read}

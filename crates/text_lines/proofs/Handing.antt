@@ -1,5 +1,5 @@
 -- One line more of a feed, the end of its text, or a fault.
-use Rattle.std.proofs.Common.{◌≡◌, ◌≢◌, ℕ, suc, ◌+◌, ◌<◌, ◌≤◌, Bool, true, false, List, [], ◌∷◌, ◌++◌, length, take, drop, Ok, Err, refl, sym, ◌∙◌, ap, subst, arith, take-append-drop}
+use Rattle.std.proofs.Common.{◌≡◌, ℕ, suc, ◌+◌, Bool, true, false, List, [], ◌∷◌, ◌++◌, length, take, drop, Ok, Err, refl, sym, ◌∙◌, ap, subst, arith, take-append-drop}
 use Rattle.std.specs.Prelude.{nat_lt}
 use Rattle.std.proofs.lemmas.List.{append-nil, length-append}
 use Rattle.std.proofs.lemmas.Bool.{both_ways, lt-ltb}
@@ -9,7 +9,7 @@ use Rattle.bone_desk.proofs.Steps.{rose_later}
 use Rattle.text_lines.specs.declared.feed.FeedEnd.{FeedEnd}
 use Rattle.text_lines.specs.declared.feed.FeedEnd.TheVariants.{Fault, TooLong, Memory}
 use Rattle.text_lines.specs.Lines.{Line, lines_of, IsFront, IsPlain}
-use Rattle.text_lines.specs.Feeds.{Came, CameWhole, IsReadFault}
+use Rattle.text_lines.specs.Feeds.{Came, IsReadFault}
 use Rattle.text_lines.specs.Progress.{Progress, HasRead, IsWhole, Answered, Advanced}
 use Rattle.text_lines.specs.Steps.Onward.{IsOnward, IsStopped, IsCause, IsFeedAt}
 use Rattle.text_lines.proofs.Lines.{front_more, front_line, front_whole, lines_open}

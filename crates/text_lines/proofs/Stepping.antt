@@ -1,6 +1,6 @@
 -- The meaning of a text, line after line.
-use Rattle.std.proofs.Common.{◌≡◌, ℕ, suc, ◌+◌, ◌-◌, ◌<◌, ◌≤◌, true, false, List, [], ◌∷◌, ◌++◌, length, Option, Some, None, Result, Ok, Err, refl, sym, ◌∙◌, ap, subst, arith}
-use Rattle.std.proofs.lemmas.List.{append_assoc, append-nil, length-append}
+use Rattle.std.proofs.Common.{◌≡◌, ℕ, suc, ◌+◌, ◌≤◌, Bool, true, false, List, [], ◌∷◌, ◌++◌, length, Option, Some, None, Result, Ok, Err, refl, sym, ◌∙◌, ap, subst, arith}
+use Rattle.std.proofs.lemmas.List.{append_assoc, length-append}
 use Rattle.bone_desk.specs.Told.{Told}
 use Rattle.bone_desk.specs.declared.desk.Feed.{Feed}
 use Rattle.text_lines.specs.declared.feed.FeedEnd.{FeedEnd}
@@ -10,7 +10,7 @@ use Rattle.text_lines.specs.declared.read.Refusal.{Refusal}
 use Rattle.text_lines.specs.declared.read.Refusal.TheVariants as refusal
 use Rattle.text_lines.specs.Lines.{Line, lines_of}
 use Rattle.text_lines.specs.Feeds.{Came, CameWhole}
-use Rattle.text_lines.specs.Progress.{Progress, HasRead, IsWhole, Answered, Advanced, Drained, DrainedTo, BeginsSo}
+use Rattle.text_lines.specs.Progress.{Progress, HasRead, Answered, Advanced, Drained, DrainedTo, BeginsSo, unread}
 use Rattle.text_lines.specs.Readings.{FaultAt, ◌>>=◌, at_line, steps, ended, reading, text_end_of, refused, Answers, ReadsText, Takes}
 use Rattle.text_lines.proofs.Lines.{lines_few}
 
@@ -140,11 +140,11 @@ text_lacks_end {step = step} end {s} {t} {feed} {limit} {count} {old} {now} {new
 }
 
 -- no further line can be read
-stopped_answer : {S F : Type 0} {limit : ℕ} {old new : Told} {q : Progress} {text : List ℕ} (done : List Line) (means : Result S (FaultAt F)) (u : S)
+stopped_answer : {S F : Type 0} (limit : ℕ) (old new : Told) (q : Progress) (text : List ℕ) (done : List Line) (means : Result S (FaultAt F)) (u : S)
     (e : FeedEnd) → Answered limit old new q text done (Err e) → Answers q.feed limit old new text means u (Err (text_end_of e))
-stopped_answer done means u feed_end.Fault answer = answer
-stopped_answer done means u feed_end.TooLong answer = answer
-stopped_answer done means u feed_end.Memory answer = tt
+stopped_answer limit old new q text done means u feed_end.Fault answer = answer
+stopped_answer limit old new q text done means u feed_end.TooLong answer = answer
+stopped_answer limit old new q text done means u feed_end.Memory answer = tt
 
 pub text_stopped : {S F : Type 0} {step : S → Line → Result S F} (end : S → Option F) {s t : S} (u : S) {feed : Feed} {limit count : ℕ}
     {old now new : Told} {p q : Progress} (e : FeedEnd) → (so_far : IsStepping step s feed limit old now p count t)
@@ -155,36 +155,36 @@ text_stopped {step = step} end {s} u {feed} {limit} {old = old} {new = new} {q =
     subst (λ (f : Feed). ReadsText f limit old new (reading step end s) u (Err (text_end_of e))) (same ∙ so_far.feed_is) (record {
       text = text;
       came = adv.came;
-      answer = stopped_answer so_far.done (reading step end s text) u e adv.answer;
+      answer = stopped_answer limit old new q text so_far.done (reading step end s text) u e adv.answer;
     })
 
-drained_answer : {S F : Type 0} {feed : Feed} {limit : ℕ} {old new : Told} {text : List ℕ} (done : List Line) (means : Result S (FaultAt F)) (u : S)
+drained_answer : {S F : Type 0} (feed : Feed) (limit : ℕ) (old new : Told) (text : List ℕ) (done : List Line) (means : Result S (FaultAt F)) (u : S)
     (e : FeedEnd) → DrainedTo feed limit old new text done (Err e) → Answers feed limit old new text means u (Err (text_end_of e))
-drained_answer done means u feed_end.Fault answer = answer
-drained_answer done means u feed_end.TooLong answer = answer
-drained_answer done means u feed_end.Memory answer = tt
+drained_answer feed limit old new text done means u feed_end.Fault answer = answer
+drained_answer feed limit old new text done means u feed_end.TooLong answer = answer
+drained_answer feed limit old new text done means u feed_end.Memory answer = tt
 
 pub rest_stopped : {S F : Type 0} (step : S → Line → Result S F) (end : S → Option F) (s u : S) {from feed : Feed} {limit : ℕ}
     {old new : Told} {text : List ℕ} {done : List Line} (e : FeedEnd) → Drained from limit old new text done (Err e) → from ≡ feed
     → ReadsText feed limit old new (reading step end s) u (Err (text_end_of e))
-rest_stopped step end s u {limit = limit} {old} {new} {text} {done} e drained same =
+rest_stopped step end s u {from} {limit = limit} {old} {new} {text} {done} e drained same =
     subst (λ (f : Feed). ReadsText f limit old new (reading step end s) u (Err (text_end_of e))) same (record {
       text = text ++ drained.more;
       came = drained.came;
-      answer = drained_answer done (reading step end s (text ++ drained.more)) u e drained.answer;
+      answer = drained_answer from limit old new (text ++ drained.more) done (reading step end s (text ++ drained.more)) u e drained.answer;
     })
 
 -- a line isn't taken, and the rest of the text came
-refused_answer : {S F : Type 0} (step : S → Line → Result S F) (end : S → Option F) (s t u : S) {feed : Feed} {limit count : ℕ} {old new : Told}
+refused_answer : {S F : Type 0} (step : S → Line → Result S F) (end : S → Option F) (s t u : S) {feed : Feed} {limit count : ℕ} (old : Told) {new : Told}
     {text : List ℕ} (done : List Line) (l : Line) (refusal : Refusal F) → steps step 1 s done ≡ Ok t → count ≡ length done
     → Takes (step t l) u (Err refusal) → BeginsSo feed limit new text (done ++ l ∷ [])
     → Answers feed limit old new text (reading step end s text) u (Err (refused (count + 1) refusal))
-refused_answer step end s t u {text = text} done l (refusal.Fault fault) state size is whole = record {
+refused_answer step end s t u old {text = text} done l (refusal.Fault fault) state size is whole = record {
   came = whole.came;
   reading = text_fault step end s t fault text done whole.rest l state is whole.lines
       ∙ ap (λ (n : ℕ). Err (record { line = n + 1; fault = fault })) (sym size);
 }
-refused_answer step end s t u done l refusal.Memory state size is whole = tt
+refused_answer step end s t u old done l refusal.Memory state size is whole = tt
 
 pub text_refused : {S F : Type 0} {step : S → Line → Result S F} (end : S → Option F) {s t : S} (u : S) {from feed : Feed} {limit count : ℕ}
     {old now new : Told} {p : Progress} {text : List ℕ} (l : Line) (refusal : Refusal F) → (so_far : IsStepping step s feed limit old now p count t)
@@ -194,5 +194,20 @@ text_refused {step = step} end {s} {t} u {limit = limit} {count} {old} {new = ne
     subst (λ (f : Feed). ReadsText f limit old new (reading step end s) u (Err (refused (count + 1) refusal))) same (record {
       text = text ++ drained.more;
       came = drained.came;
-      answer = refused_answer step end s t u so_far.done l refusal so_far.state so_far.count_is is drained.answer;
+      answer = refused_answer step end s t u old so_far.done l refusal so_far.state so_far.count_is is drained.answer;
     })
+
+pub same_line : (bytes : List ℕ) (ended : Bool) (l : Line) → bytes ≡ l.bytes → ended ≡ l.ended → record { bytes = bytes; ended = ended } ≡ l
+same_line bytes ended l e1 e2 =
+    ap (λ (b : List ℕ). record { bytes = b; ended = ended }) e1 ∙ ap (λ (e : Bool). record { bytes = l.bytes; ended = e }) e2
+
+pub stepping_none : {S F : Type 0} (step : S → Line → Result S F) (s : S) (feed : Feed) (limit : ℕ) (t : Told)
+    → HasRead limit t t (unread feed limit) [] [] → IsStepping step s feed limit t t (unread feed limit) 0 s
+stepping_none step s feed limit t read = record {
+  text = [];
+  done = [];
+  read = read;
+  feed_is = refl;
+  count_is = refl;
+  state = refl;
+}

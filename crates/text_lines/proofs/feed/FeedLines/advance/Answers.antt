@@ -1,9 +1,9 @@
 -- A line with its line feed, or what is left at the end.
-use Rattle.std.proofs.Common.{◌≡◌, ◌+◌, ℕ, List, [], Bool, false, length, take, drop, Option, Some, None, sym, ◌∙◌, ap, subst, arith}
+use Rattle.std.proofs.Common.{◌≡◌, ◌+◌, ℕ, List, false, length, Option, Some, None, sym, ◌∙◌, ap, subst, arith}
 use Rattle.std.proofs.lemmas.List.{take_all, drop_all}
 use Rattle.bone_desk.specs.Told.{Told}
 use Rattle.text_lines.specs.Lines.{Line}
-use Rattle.text_lines.specs.Progress.{Progress, HasRead}
+use Rattle.text_lines.specs.Progress.{Progress}
 use Rattle.text_lines.specs.Steps.Onward.{IsOnward, EndsAt}
 use Rattle.text_lines.proofs.Handing.{handed, handed_last}
 use Rattle.text_lines.proofs.feed.FeedLines.advance.Goals as goal

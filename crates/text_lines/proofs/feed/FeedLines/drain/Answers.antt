@@ -3,7 +3,7 @@ use Rattle.std.proofs.Common.{ℕ, List, sym, subst}
 use Rattle.std.proofs.lemmas.Result.{err_from_is_err_and}
 use Rattle.bone_desk.specs.Told.{Told}
 use Rattle.text_lines.specs.Lines.{Line}
-use Rattle.text_lines.specs.Progress.{Progress, HasRead}
+use Rattle.text_lines.specs.Progress.{Progress}
 use Rattle.text_lines.proofs.Draining.{IsDraining, draining_more, drained_fault}
 use Rattle.text_lines.proofs.feed.FeedLines.drain.Goals as goal
 
