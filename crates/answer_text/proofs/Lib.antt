@@ -1,2 +1,4 @@
 mod Lines
 pub mod Verdicts
+mod Digits
+mod Endings
