@@ -1,12 +1,9 @@
 -- What a witness's lines tell, and which line is none. A line is given here without its line feed.
-use Rattle.std.specs.Prelude.{ℕ, ◌==◌, ◌&&◌, nat_lt, nat_le, Bool, true, false, not, if◌then◌else◌, Option, Some, None, List, [], ◌∷◌, ◌++◌, length, map, take, drop, fold, codes, bytes_eq, slice_index, Result, Ok, Err}
-use Rattle.std.specs.Option.{ok_or}
+use Rattle.std.specs.Prelude.{ℕ, ◌==◌, ◌&&◌, nat_lt, nat_le, Bool, true, false, not, if◌then◌else◌, Option, Some, None, List, [], ◌∷◌, ◌++◌, length, map, fold, slice_index}
 use Rattle.std.specs.List.{list_all}
 use Rattle.std.specs.Char.{is_ascii_digit}
 use Rattle.cnf_core.specs.Literals.{Literal, Assignment}
 use Rattle.cnf_core.specs.Spelling.{digits_value}
-use Rattle.text_lines.specs.Lines.{Line}
-use Rattle.text_lines.specs.Readings.{FaultAt, reading}
 use Rattle.witness_text.specs.declared.line.WitnessLine.{WitnessLine}
 
 -- so many variables, and the models and drop lines that were read
@@ -103,18 +100,8 @@ with_drop_above w (Some d) = if nat_lt (last_var w.drops) d.lit.var then Some (w
 -- with what a line tells; None: no such line can stand here
 abbrev pub with_line : Witnessed → List ℕ → Option Witnessed
 with_line w [] = None
-with_line w (b ∷ bs) =
-    if b == 109 then with_digits w bs
-    else (if (b == 100) && bytes_eq (take 1 bs) (codes " ") then with_drop_above w (drop_of w.vars (length w.models) (drop 1 bs)) else None)
+with_line w (b ∷ []) = if b == 109 then with_digits w [] else None
+with_line w (b ∷ c ∷ more) =
+    if b == 109 then with_digits w (c ∷ more)
+    else (if (b == 100) && (c == 32) then with_drop_above w (drop_of w.vars (length w.models) more) else None)
 
--- one step of the reading: a line without its line feed is at fault too
-abbrev pub line_step : Witnessed → Line → Result Witnessed (Unit {0})
-line_step w l = if l.ended then ok_or (with_line w l.bytes) tt else Err tt
-
--- a text may end behind any line
-abbrev pub no_end_fault : Witnessed → Option (Unit {0})
-no_end_fault w = None
-
--- what a text tells, or its first line at fault, from 1
-abbrev pub witness_reading : ℕ → List ℕ → Result Witnessed (FaultAt (Unit {0}))
-witness_reading n text = reading line_step no_end_fault (none_read n) text
