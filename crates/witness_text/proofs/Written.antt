@@ -27,10 +27,9 @@ pub lines_all : {X : Type 0} (f : X → List ℕ) (xs : List X) (i : ℕ) → le
 lines_all f xs i le = ap (flat_map f) (take_all i xs le)
 
 -- the member of a mapped list
-pub mapped_at : {X Y : Type 0} (g : X → Y) (xs : List X) (i : ℕ) (x : X) (y : Y) → i < length xs → x ≡ get_or xs i x → y ≡ g x
+pub mapped_at : {X Y : Type 0} (g : X → Y) (xs : List X) (i : ℕ) (d : X) (y : Y) → i < length xs → y ≡ g (get_or xs i d)
     → y ≡ get_or (map g xs) i y
-mapped_at g xs i x y below is same =
-    same ∙ ap g is ∙ sym (get_or-map g xs i x y below)
+mapped_at g xs i d y below is = is ∙ sym (get_or-map g xs i d y below)
 
 -- the digits so far are those of the values behind the first ones
 pub record IsFilled (a : Assignment) (first : ℕ) (digits : List ℕ) (i : ℕ) : Type 0 where

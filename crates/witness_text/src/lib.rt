@@ -3,6 +3,7 @@
 
 mod drops;
 mod line;
+mod lines;
 mod models;
 mod packing;
 mod write;

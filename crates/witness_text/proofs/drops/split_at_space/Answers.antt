@@ -1,4 +1,5 @@
-use Rattle.std.proofs.Common.{sym}
+use Rattle.std.proofs.Common.{◌+◌, ◌-◌, length, drop, ◌∙◌, arith}
+use Rattle.std.proofs.lemmas.List.{take_all, length-drop}
 use Rattle.witness_text.proofs.Spaces.{spaces-none, spaces-more, space_before, space_behind, no_space_before, no_space_behind}
 use Rattle.witness_text.proofs.drops.split_at_space.Goals as goal
 
@@ -14,7 +15,10 @@ returns-then-byte-eq32-clause-before c =
 
 pub returns-then-byte-eq32-clause-behind : goal.returns-then-byte-eq32-clause-behind
 returns-then-byte-eq32-clause-behind c =
-    space_behind c.args.bytes.now c.loop-i.i c.loop-i.invariant c.loop-i-test.true c.if-byte-eq32.true
+    let bytes = c.args.bytes.now in
+    let i = c.loop-i.i in
+    take_all (length bytes - (i + 1)) (drop (i + 1) bytes) (omega (arith, length-drop (i + 1) bytes))
+    ∙ space_behind bytes i c.loop-i.invariant c.loop-i-test.true c.if-byte-eq32.true
 
 pub returns-clause-before : goal.returns-clause-before
 returns-clause-before c = no_space_before c.args.bytes.now c.loop-i.i c.loop-i.invariant c.loop-i-test.false

@@ -14,7 +14,7 @@ pub loop-model-preserved : goal.loop-model-preserved
 loop-model-preserved g c =
     let s = c.args.models.now in
     let i = c.loop-model.model in
-    let below : i < length s.models = omega (arith, c.len.ensures.value, c.loop-model-test.true) in
+    let below : i < length s.models = omega (arith, c.len-model-end.ensures.value, c.loop-model-test.true) in
     pushed_as (lines_more model_line s.models i [] (model_at s i) below refl)
     (pushed_next (model_lines (take i s.models)) (model_line (model_at s i)) c.loop-model.invariant c.in_ok-push_model.ensures.ok)
 
@@ -23,7 +23,7 @@ returns-in_err-push_model-clause-err g c =
     let p = err_from_is_err_and c.from_residual.result c.from_residual.ensures.1 in
     let s = c.args.models.now in
     let i = c.loop-model.model in
-    let below : i < length s.models = omega (arith, c.len.ensures.value, c.loop-model-test.true) in
+    let below : i < length s.models = omega (arith, c.len-model-end.ensures.value, c.loop-model-test.true) in
     let so_far = model_lines (take i s.models) in
     let with_line = cut_next so_far (model_line (model_at s i)) c.loop-model.invariant c.in_err-push_model.ensures.err in
     rw p.1 (cut_as (lines_around model_line s.models i [] (model_at s i) below refl)
@@ -32,5 +32,5 @@ returns-in_err-push_model-clause-err g c =
 pub returns-clause-ok : goal.returns-clause-ok
 returns-clause-ok g c =
     let s = c.args.models.now in
-    let le : length s.models ≤ c.loop-model.model = omega (arith, c.len.ensures.value, c.loop-model-test.false) in
+    let le : length s.models ≤ c.loop-model.model = omega (arith, c.len-model-end.ensures.value, c.loop-model-test.false) in
     pushed_as (lines_all model_line s.models c.loop-model.model le) c.loop-model.invariant

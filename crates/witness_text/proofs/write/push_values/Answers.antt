@@ -18,7 +18,7 @@ loop-chunk-preserved g c =
     let i = c.loop-chunk.chunk * 64 in
     let count = c.min-count.result in
     let len : length a ≡ c.args.vars = (model_at_is_model s c.args.model c.requires.holds c.requires.model).values ∙ sym c.requires.vars in
-    let below : i < c.args.vars = omega (arith, c.loop-chunk-test.true, c.div_ceil.ensures) in
+    let below : i < c.args.vars = omega (arith, c.loop-chunk-test.true, c.div_ceil-chunk-end.ensures) in
     let next : (c.loop-chunk.chunk + 1) * 64 ≡ i + 64 = omega arith in
     pushed_as (chunk_more a c.args.vars i count ((c.loop-chunk.chunk + 1) * 64) len below c.min-count.ensures next)
     (pushed_next (map digit_of (take i a)) (map digit_of (take count (drop i a))) c.loop-chunk.invariant c.in_ok-push_chunk.ensures.ok)
@@ -32,7 +32,7 @@ returns-in_err-push_chunk-clause-err g c =
     let j = (c.loop-chunk.chunk + 1) * 64 in
     let count = c.min-count.result in
     let len : length a ≡ c.args.vars = (model_at_is_model s c.args.model c.requires.holds c.requires.model).values ∙ sym c.requires.vars in
-    let below : i < c.args.vars = omega (arith, c.loop-chunk-test.true, c.div_ceil.ensures) in
+    let below : i < c.args.vars = omega (arith, c.loop-chunk-test.true, c.div_ceil-chunk-end.ensures) in
     let next : j ≡ i + 64 = omega arith in
     let so_far = map digit_of (take i a) in
     let piece = map digit_of (take count (drop i a)) in
@@ -44,5 +44,5 @@ returns-clause-ok g c =
     let s = c.args.models.now in
     let a = model_at s c.args.model in
     let len : length a ≡ c.args.vars = (model_at_is_model s c.args.model c.requires.holds c.requires.model).values ∙ sym c.requires.vars in
-    let le : length a ≤ c.loop-chunk.chunk * 64 = omega (arith, len, c.loop-chunk-test.false, c.div_ceil.ensures) in
+    let le : length a ≤ c.loop-chunk.chunk * 64 = omega (arith, len, c.loop-chunk-test.false, c.div_ceil-chunk-end.ensures) in
     pushed_as (chunk_all a (c.loop-chunk.chunk * 64) le) c.loop-chunk.invariant
