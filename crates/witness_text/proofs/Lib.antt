@@ -5,3 +5,5 @@ pub mod Written
 pub mod Gathered
 pub mod Kept
 pub mod Spelled
+pub mod ReadTells
+pub mod ReadsBack

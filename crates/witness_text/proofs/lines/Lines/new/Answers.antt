@@ -1,8 +1,6 @@
 use Rattle.std.proofs.Common.{◌≡◌, List, ℕ, [], ap, ◌∙◌}
 use Rattle.witness_text.specs.declared.line.WitnessLine.{WitnessLine}
 use Rattle.witness_text.proofs.Gathered.{seen, seen-none}
-use Rattle.witness_text.proofs.Kept.{kept_line}
-use Rattle.witness_text.proofs.Spelled.{with_line-model, with_line-drop}
 use Rattle.witness_text.proofs.lines.Lines.new.Goals as goal
 
 pub returns : goal.returns
