@@ -1,7 +1,9 @@
 -- What is known of what a text tells, line by line.
-use Rattle.std.proofs.Common.{◌≡◌, ℕ, ◌+◌, Bool, true, false, Option, Some, None, Result, Ok, Err, List, [], ◌∷◌, length, refl, subst}
+use Rattle.std.proofs.Common.{◌≡◌, ℕ, ◌+◌, Bool, true, false, Option, Some, None, Result, Ok, Err, List, [], ◌∷◌, length, refl, sym, ap, ◌∙◌, subst}
 use Rattle.text_lines.specs.Lines.{Line, lines_of}
-use Rattle.text_lines.specs.Readings.{FaultAt, at_line, steps, ended, ◌>>=◌}
+use Rattle.text_lines.specs.Readings.{FaultAt, at_line, steps, ended, reading, ◌>>=◌}
+use Rattle.cnf_core.specs.Literals.{Assignment}
+use Rattle.witness_text.specs.declared.line.WitnessLine.{WitnessLine}
 use Rattle.witness_text.specs.Reading.{Witnessed, none_read, with_line}
 use Rattle.witness_text.specs.Texts.{or_fault, line_step, no_end_fault, witness_reading}
 use Rattle.witness_text.specs.Told.{IsWitness}
@@ -49,3 +51,15 @@ pub texts_tell : TextsTellWitnesses
 texts_tell n text w is =
     let read = end_told (steps line_step 1 (none_read n) (lines_of text)) (length (lines_of text) + 1) w is in
     (steps_told n (lines_of text) 1 (none_read n) w (told-none n) read).witness
+
+-- what the reader of lines was left with, by its models and drop lines
+pub read_as : (n : ℕ) (text : List ℕ) (start v : Witnessed) (models : List Assignment) (drops : List WitnessLine) → start ≡ none_read n
+    → reading line_step no_end_fault start text ≡ Ok v → models ≡ v.models → drops ≡ v.drops
+    → witness_reading n text ≡ Ok (record { vars = n; models = models; drops = drops })
+read_as n text start v models drops begun is models_are drops_are =
+    let here : witness_reading n text ≡ Ok v =
+    ap (λ (s : Witnessed). reading line_step no_end_fault s text) (sym begun) ∙ is in
+    here
+    ∙ ap (λ (k : ℕ). Ok (record v { vars = k })) (texts_tell n text v here).vars
+    ∙ ap (λ (ms : List Assignment). Ok (record { vars = n; models = ms; drops = v.drops })) (sym models_are)
+    ∙ ap (λ (ds : List WitnessLine). Ok (record { vars = n; models = models; drops = ds })) (sym drops_are)
