@@ -71,12 +71,13 @@ models_read (a ∷ more) k w v tail none each later =
 continues_from : (n count last : ℕ) (drops : List WitnessLine) → All (IsDropOf n count) drops → AllPairs HasLowerVar drops
     → All (λ d. last < d.lit.var) drops → Continues n count last drops
 continues_from n count last [] each rises above = tt
-continues_from n count last (d ∷ ds) each rises above =
-    (All-head (IsDropOf n count) d ds each,
-    All-head (λ (e : WitnessLine). last < e.lit.var) d ds above,
-    continues_from n count d.lit.var ds (All-tail (IsDropOf n count) d ds each)
-    (λ i j e before below. rises (suc i) (suc j) e (omega arith) (omega arith))
-    (All-from_get_or (λ (e : WitnessLine). d.lit.var < e.lit.var) ds d (λ i below. rises 0 (suc i) d (omega arith) (omega arith))))
+continues_from n count last (d ∷ ds) each rises above = (
+  All-head (IsDropOf n count) d ds each,
+  All-head (λ (e : WitnessLine). last < e.lit.var) d ds above,
+  continues_from n count d.lit.var ds (All-tail (IsDropOf n count) d ds each)
+      (λ i j e before below. rises (suc i) (suc j) e (omega arith) (omega arith))
+      (All-from_get_or (λ (e : WitnessLine). d.lit.var < e.lit.var) ds d (λ i below. rises 0 (suc i) d (omega arith) (omega arith))),
+)
 
 read_back : (w : Witnessed) → w.vars ≤ 2 ^ 20 → length w.models ≤ 2 ^ 64 → IsWitness w.vars w
     → witness_reading w.vars (witness_text w.models w.drops) ≡ Ok w
@@ -104,8 +105,12 @@ named_rise a drops rises = λ i j d before below.
     let inside : j < length drops = omega (arith, length-map drops (named_by a)) in
     let first : i < length drops = omega arith in
     let lower = rises i j some_witness before inside in
-    omega (arith, lower, ap (λ (e : WitnessLine). e.lit.var) (get_or-map (named_by a) drops i some_witness d first),
-    ap (λ (e : WitnessLine). e.lit.var) (get_or-map (named_by a) drops j some_witness d inside))
+    omega (
+      arith,
+      lower,
+      ap (λ (e : WitnessLine). e.lit.var) (get_or-map (named_by a) drops i some_witness d first),
+      ap (λ (e : WitnessLine). e.lit.var) (get_or-map (named_by a) drops j some_witness d inside),
+    )
 
 pub stores_back : StoresReadBack
 stores_back s drops small holds within rises =

@@ -137,13 +137,19 @@ model_line_parts a more = append_assoc (109 ∷ map digit_of a) (10 ∷ []) more
 
 pub drop_spares : (n count : ℕ) (d : WitnessLine) → IsDropOf n count d → n ≤ 2 ^ 20 → count ≤ 2 ^ 64
     → Spares 10 (100 ∷ 32 ∷ drop_body d)
-drop_spares n count d is small wide =
-    (refl, (refl,
+drop_spares n count d is small wide = (
+  refl,
+  (
+    refl,
     spares-append 10 (literal_text d.lit) (32 ∷ (decimal d.model ++ 32 ∷ digit_of d.flip ∷ []))
-    (signed_spares 10 (omega arith) d.lit.positive d.lit.var is.within.low (omega (arith, is.within.high)))
-    (refl, spares-append 10 (decimal d.model) (32 ∷ digit_of d.flip ∷ [])
-    (decimal_spares 10 d.model (omega arith) (omega (arith, is.model)))
-    (refl, (digit_spares d.flip, tt)))))
+        (signed_spares 10 (omega arith) d.lit.positive d.lit.var is.within.low (omega (arith, is.within.high))) (
+          refl,
+          spares-append 10 (decimal d.model) (32 ∷ digit_of d.flip ∷ [])
+              (decimal_spares 10 d.model (omega arith) (omega (arith, is.model)))
+              (refl, (digit_spares d.flip, tt)),
+        ),
+  ),
+)
 
 digits_of_spare : (a : Assignment) → Spares 10 (map digit_of a)
 digits_of_spare [] = tt

@@ -104,4 +104,3 @@ with_line w (b ∷ []) = if b == 109 then with_digits w [] else None
 with_line w (b ∷ c ∷ more) =
     if b == 109 then with_digits w (c ∷ more)
     else (if (b == 100) && (c == 32) then with_drop_above w (drop_of w.vars (length w.models) more) else None)
-

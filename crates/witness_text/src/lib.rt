@@ -14,3 +14,6 @@ pub use line::WitnessLine;
 pub use models::PackedModels;
 pub use read::{MAX_WITNESS, WitnessEnd, WitnessText, read_witness};
 pub use write::{WriteFault, write_witness};
+
+#[cfg(test)]
+mod tests;

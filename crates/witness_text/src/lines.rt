@@ -28,9 +28,9 @@ impl Model for Lines {
     ghost Value = { Witnessed };
 
     ghost view = { λ l. record {
-        vars = l.vars;
-        models = all_unpacked l.words.items l.vars l.count;
-        drops = l.drops.items;
+      vars = l.vars;
+      models = all_unpacked l.words.items l.vars l.count;
+      drops = l.drops.items;
     } };
 
     ghost invariant = { λ l. IsGathered l.words.items l.vars l.count l.drops.items l.last };

@@ -91,7 +91,12 @@ pub fn read_witness<D: Desk>(
         }
         Err(TextEnd::Fault) => Err(WitnessEnd::Fault),
         Err(TextEnd::TooLong) => Err(WitnessEnd::TooLong),
-        Err(TextEnd::Bad { line, fault: _fault }) => Err(WitnessEnd::BadLine(line)),
+        Err(
+            TextEnd::Bad {
+                line,
+                fault: _fault,
+            },
+        ) => Err(WitnessEnd::BadLine(line)),
         Err(TextEnd::Memory) => Err(WitnessEnd::Memory),
     }
 }
