@@ -64,7 +64,7 @@ fn digit(witness: &WitnessText, model: u64, k: u32) -> char {
 }
 
 /// The first line of a text over so many variables that is none of a witness, by a plain program, or 0.
-fn plain_fault(alloc: Global, vars: usize, text: &[u8]) -> Result<u64, AllocError> {
+fn plain_fault(alloc: Global, vars: u8, text: &[u8]) -> Result<u64, AllocError> {
     let mut number = 0_u64;
     let mut models = 0_u64;
     let mut last = 0_i32;
@@ -85,10 +85,11 @@ fn plain_fault(alloc: Global, vars: usize, text: &[u8]) -> Result<u64, AllocErro
     Ok(0)
 }
 
-fn is_plain_model(vars: usize, line: &[u8]) -> bool {
+fn is_plain_model(vars: u8, line: &[u8]) -> bool {
     match line.strip_prefix(b"m") {
         Some(digits) => {
-            digits.len() == vars && digits.iter().all(|digit| *digit == b'0' || *digit == b'1')
+            digits.len() == usize::from(vars)
+                && digits.iter().all(|digit| *digit == b'0' || *digit == b'1')
         }
         None => false,
     }
@@ -97,14 +98,14 @@ fn is_plain_model(vars: usize, line: &[u8]) -> bool {
 /// The variable of a drop line that is printed as it stands.
 fn plain_drop(
     alloc: Global,
-    vars: usize,
+    vars: u8,
     models: u64,
     line: &[u8],
 ) -> Result<Option<i32>, AllocError> {
     if !line.starts_with(b"d ") {
         return Ok(None);
     }
-    for var in 1..=vars as i32 {
+    for var in 1..=i32::from(vars) {
         for number in [var, -var] {
             for model in 0..models {
                 for flip in 0..2_u8 {
@@ -168,18 +169,18 @@ fn the_first_line_at_fault_is_named(rt: HostRuntime) -> Result<(), Fail> {
 #[test]
 fn each_front_and_each_change_reads_as_a_plain_program_says(rt: HostRuntime) -> Result<(), Fail> {
     let alloc = rt.alloc();
-    let whole = b"m1\nm0\nd 1 1 0\n";
+    let whole = b"m10\nm01\nd 1 0 1\nd -2 1 0\n";
     for end in 0..whole.len() {
         let front = &whole[..end];
-        let fault = plain_fault(alloc, 1, front)?;
-        assert_eq!(rt; line_at_fault(alloc, 1, front)?, fault, "front {end}");
+        let fault = plain_fault(alloc, 2, front)?;
+        assert_eq!(rt; line_at_fault(alloc, 2, front)?, fault, "front {end}");
     }
     let mut text = whole.to_vec(alloc)?;
     for place in 0..text.len() {
-        for byte in 0..=u8::MAX {
+        for byte in *b"\0\n\r +-/0123:Ddm\xff" {
             text[place] = byte;
-            let fault = plain_fault(alloc, 1, &text)?;
-            assert_eq!(rt; line_at_fault(alloc, 1, &text)?, fault, "{place} {byte}");
+            let fault = plain_fault(alloc, 2, &text)?;
+            assert_eq!(rt; line_at_fault(alloc, 2, &text)?, fault, "{place} {byte}");
         }
         text[place] = whole[place];
     }
@@ -204,18 +205,17 @@ fn push(
     alloc: Global,
     models: &mut ModelStore,
     formula: &Formula,
-    values: &[bool],
+    values: [bool; 3],
 ) -> Result<(), Fail>
     requires { models.old.formula ≡ formula.now }
     ensures { models.new.formula ≡ models.old.formula }
 {
     let mut model = Values::new(alloc, formula.vars())?;
-    for (i, value) in values.iter().enumerate() {
-        let var = i as u32 + 1;
-        if model.len() < var {
+    for (var, value) in [1, 2, 3].into_iter().zip(values) {
+        if var == 0 || model.len() < var {
             return Err("no variable".into());
         }
-        model.set(var, *value);
+        model.set(var, value);
     }
     if model.len() != formula.vars() || !is_model(formula, &model) || models.len() > 9 {
         return Err("no model".into());
@@ -253,8 +253,8 @@ fn models_and_drops_are_written(rt: HostRuntime) -> Result<(), Fail> {
     let alloc = rt.alloc();
     let formula = Formula::of_numbers(alloc, 3, [1, 2, 0].as_slice())?;
     let mut models = ModelStore::new(alloc, &formula);
-    push(alloc, &mut models, &formula, [true, false, true].as_slice())?;
-    push(alloc, &mut models, &formula, [false, true, true].as_slice())?;
+    push(alloc, &mut models, &formula, [true, false, true])?;
+    push(alloc, &mut models, &formula, [false, true, true])?;
     let drops = three_drops(alloc, &formula, &models)?;
     for (fail, given) in [(0, SMALL), (1, ""), (3, "m101\nm011\n")] {
         let mut desk = MemDesk::new(alloc, 5, 100)?;
