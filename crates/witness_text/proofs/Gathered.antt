@@ -1,8 +1,8 @@
 -- What the lines so far tell, and how one more line changes what lies in memory.
-use Rattle.std.proofs.Common.{◌≡◌, ℕ, ◌+◌, ◌*◌, ◌^◌, ◌<◌, ◌≤◌, ◌==◌, ◌&&◌, Bool, true, false, Option, Some, None, List, [], ◌∷◌, ◌++◌, length, fold, refl, sym, ap, ◌∙◌, subst, mul-zero, arith}
+use Rattle.std.proofs.Common.{◌≡◌, ℕ, ◌+◌, ◌*◌, ◌^◌, ◌≤◌, ◌==◌, ◌&&◌, true, false, Option, Some, None, List, [], ◌∷◌, ◌++◌, length, refl, sym, ap, ◌∙◌, mul-zero, arith}
 use Rattle.std.specs.Prelude.{nat_lt}
 use Rattle.std.specs.List.{list_all}
-use Rattle.std.proofs.lemmas.Bool.{and_parts, eqb-true, lt-ltb, le-ltb, cond-true, cond-false}
+use Rattle.std.proofs.lemmas.Bool.{and_parts, eqb-true, cond-true, cond-false}
 use Rattle.std.proofs.lemmas.List.{length-map}
 use Rattle.std.proofs.lemmas.List.Sums.{fold-append}
 use Rattle.cnf_core.specs.Literals.{Assignment}
@@ -11,7 +11,7 @@ use Rattle.model_store.proofs.Blocks.{length-all_unpacked, all_unpacked-zero}
 use Rattle.model_store.proofs.Grown.{all_unpacked-appends}
 use Rattle.witness_text.specs.declared.line.WitnessLine.{WitnessLine}
 use Rattle.witness_text.specs.Reading.{Witnessed, none_read, is_bit, values_of, with_model, can_be_model, with_digits, drop_of, last_var, with_drop, with_drop_above}
-use Rattle.witness_text.specs.Steps.Blocks.{IsPacked, IsGathered}
+use Rattle.witness_text.specs.Steps.Blocks.{IsGathered}
 
 -- what lies in memory tells
 abbrev pub seen : List ℕ → ℕ → ℕ → List WitnessLine → Witnessed
@@ -76,26 +76,25 @@ drop_seen words n count drops w line r view is =
 pub no_drop : (w : Witnessed) (o : Option WitnessLine) → o ≡ None → with_drop_above w o ≡ None
 no_drop w o is = ap (with_drop_above w) is
 
-last_seen : (words : List ℕ) (n count : ℕ) (drops : List WitnessLine) (last : ℕ) (w : Witnessed)
+pub last_seen : (words : List ℕ) (n count : ℕ) (drops : List WitnessLine) (last : ℕ) (w : Witnessed)
     → seen words n count drops ≡ w → IsGathered words n count drops last → last ≡ last_var w.drops
 last_seen words n count drops last w view gathered =
     gathered.last_is ∙ ap (λ (t : Witnessed). last_var t.drops) view
 
-pub low_drop : (words : List ℕ) (n count : ℕ) (drops : List WitnessLine) (last : ℕ) (w : Witnessed) (o : Option WitnessLine) (d : WitnessLine)
-    → seen words n count drops ≡ w → IsGathered words n count drops last → o ≡ Some d → d.lit.var ≤ last
-    → with_drop_above w o ≡ None
-low_drop words n count drops last w o d view gathered is low =
-    let le : d.lit.var ≤ last_var w.drops = omega (arith, last_seen words n count drops last w view gathered) in
+pub low_drop : (w : Witnessed) (o : Option WitnessLine) (d : WitnessLine) (v : ℕ) → o ≡ Some d → v ≡ d.lit.var
+    → nat_lt (last_var w.drops) v ≡ false → with_drop_above w o ≡ None
+low_drop w o d v is var low =
     ap (with_drop_above w) is
-    ∙ cond-false (nat_lt (last_var w.drops) d.lit.var) (Some (with_drop w d)) None (le-ltb (last_var w.drops) d.lit.var le)
+    ∙ cond-false (nat_lt (last_var w.drops) d.lit.var) (Some (with_drop w d)) None
+    (ap (nat_lt (last_var w.drops)) (sym var) ∙ low)
 
-pub seen-drop : (words : List ℕ) (n count : ℕ) (drops : List WitnessLine) (last : ℕ) (w : Witnessed) (o : Option WitnessLine) (d : WitnessLine)
-    → seen words n count drops ≡ w → IsGathered words n count drops last → o ≡ Some d → last < d.lit.var
+pub seen-drop : (words : List ℕ) (n count : ℕ) (drops : List WitnessLine) (w : Witnessed) (o : Option WitnessLine) (d : WitnessLine)
+    (v : ℕ) → seen words n count drops ≡ w → o ≡ Some d → v ≡ d.lit.var → nat_lt (last_var w.drops) v ≡ true
     → with_drop_above w o ≡ Some (seen words n count (drops ++ d ∷ []))
-seen-drop words n count drops last w o d view gathered is above =
-    let lt : last_var w.drops < d.lit.var = omega (arith, last_seen words n count drops last w view gathered) in
+seen-drop words n count drops w o d v view is var above =
     ap (with_drop_above w) is
-    ∙ cond-true (nat_lt (last_var w.drops) d.lit.var) (Some (with_drop w d)) None (lt-ltb (last_var w.drops) d.lit.var lt)
+    ∙ cond-true (nat_lt (last_var w.drops) d.lit.var) (Some (with_drop w d)) None
+    (ap (nat_lt (last_var w.drops)) (sym var) ∙ above)
     ∙ ap (λ (t : Witnessed). Some (with_drop t d)) (sym view)
 
 pub last_var-more : (drops : List WitnessLine) (d : WitnessLine) → last_var (drops ++ d ∷ []) ≡ d.lit.var

@@ -1,15 +1,14 @@
 -- A line that is taken keeps what is known of what was told.
-use Rattle.std.proofs.Common.{◌≡◌, ℕ, ◌+◌, ◌<◌, ◌≤◌, ◌==◌, ◌&&◌, Bool, true, false, Option, Some, None, List, [], ◌∷◌, ◌++◌, length, get_or, All, refl, sym, ap, ◌∙◌, subst, length-append, arith}
+use Rattle.std.proofs.Common.{◌≡◌, ℕ, ◌<◌, ◌≤◌, ◌==◌, ◌&&◌, Bool, true, false, Option, Some, None, List, [], ◌∷◌, ◌++◌, length, All, refl, ◌∙◌, subst, length-append, arith}
 use Rattle.std.specs.Prelude.{nat_lt, nat_le, cond}
-use Rattle.std.specs.List.{list_all}
-use Rattle.std.proofs.lemmas.Bool.{and_parts, eqb-true, ltb-true, leb-true}
+use Rattle.std.proofs.lemmas.Bool.{and_parts, ltb-true, leb-true}
 use Rattle.std.proofs.lemmas.List.{length-map}
 use Rattle.std.proofs.lemmas.List.Elements.{All-push, All-nil, All-weaker, All-get_or}
 use Rattle.std.proofs.lemmas.List.Quantifiers.{all_pairs_push}
 use Rattle.cnf_core.specs.Literals.{Literal, Assignment, IsWithin}
 use Rattle.cnf_core.specs.Spelling.{digits_value}
 use Rattle.witness_text.specs.declared.line.WitnessLine.{WitnessLine}
-use Rattle.witness_text.specs.Reading.{Witnessed, none_read, is_bit, values_of, with_model, can_be_model, with_digits, is_plain, number_below, signed_literal, literal_within, value_of_digit, before_space, behind_space, joined, drop_of, last_var, with_drop, with_drop_above, with_line}
+use Rattle.witness_text.specs.Reading.{Witnessed, none_read, values_of, with_model, can_be_model, with_digits, is_plain, number_below, signed_literal, literal_within, value_of_digit, before_space, behind_space, joined, drop_of, last_var, with_drop, with_drop_above, with_line}
 use Rattle.witness_text.specs.Told.{HasLength, IsDropOf, HasLowerVar, IsWitness}
 use Rattle.witness_text.proofs.Gathered.{as_many, last_var-more}
 
@@ -34,11 +33,11 @@ pub record IsChosen {X : Type 0} (test : Bool) (x : Option X) (y : X) : Type 0 w
   pub test_is : test ≡ true
   pub given : x ≡ Some y
 
-chosen : {X : Type 0} (test : Bool) (x : Option X) (y : X) → cond test x None ≡ Some y → IsChosen test x y
+pub chosen : {X : Type 0} (test : Bool) (x : Option X) (y : X) → cond test x None ≡ Some y → IsChosen test x y
 chosen true x y is = record { test_is = refl; given = is }
 chosen false x y is = absurd (cc)
 
-inner : {X : Type 0} (x y : X) → Some x ≡ Some y → x ≡ y
+pub inner : {X : Type 0} (x y : X) → Some x ≡ Some y → x ≡ y
 inner x y is = cc
 
 -- what a plain number below a limit is

@@ -6,4 +6,5 @@ pub mod Gathered
 pub mod Kept
 pub mod Spelled
 pub mod ReadTells
+pub mod Spelling
 pub mod ReadsBack

@@ -6,11 +6,10 @@ use Rattle.cnf_core.specs.Literals.{Assignment}
 use Rattle.witness_text.specs.declared.line.WitnessLine.{WitnessLine}
 use Rattle.witness_text.specs.Reading.{Witnessed, none_read, with_line}
 use Rattle.witness_text.specs.Texts.{or_fault, line_step, no_end_fault, witness_reading}
-use Rattle.witness_text.specs.Told.{IsWitness}
 use Rattle.witness_text.specs.Laws.{TextsTellWitnesses}
 use Rattle.witness_text.proofs.Kept.{IsTold, told-none, kept_line}
 
-good : (r : Result Witnessed (Unit {0})) (v t : Witnessed) → r ≡ Ok v → r ≡ Ok t → v ≡ t
+pub good : (r : Result Witnessed (Unit {0})) (v t : Witnessed) → r ≡ Ok v → r ≡ Ok t → v ≡ t
 good r v t first second = cc
 
 kept_given : (n : ℕ) (o : Option Witnessed) (t : Witnessed) → ((v : Witnessed) → o ≡ Some v → IsTold n v) → or_fault o ≡ Ok t
@@ -31,7 +30,7 @@ told_next : (n k : ℕ) (ls : List Line) (v : Witnessed) (r : Result Witnessed (
 told_next n k ls v (Ok t) kept later is = later t (kept t refl) is
 told_next n k ls v (Err f) kept later is = absurd (cc)
 
-same : (r : Result Witnessed (FaultAt (Unit {0}))) (w v : Witnessed) → r ≡ Ok w → r ≡ Ok v → w ≡ v
+pub same : (r : Result Witnessed (FaultAt (Unit {0}))) (w v : Witnessed) → r ≡ Ok w → r ≡ Ok v → w ≡ v
 same r w v first second = cc
 
 steps_told : (n : ℕ) (ls : List Line) (k : ℕ) (w v : Witnessed) → IsTold n w → steps line_step k w ls ≡ Ok v → IsTold n v
@@ -42,7 +41,7 @@ steps_told n (l ∷ ls) k w v told is =
     (λ t kept rest. steps_told n ls (k + 1) t v kept rest)
     is
 
-end_told : (r : Result Witnessed (FaultAt (Unit {0}))) (m : ℕ) (w : Witnessed)
+pub end_told : (r : Result Witnessed (FaultAt (Unit {0}))) (m : ℕ) (w : Witnessed)
     → (r >>= λ t. ended m t (no_end_fault t)) ≡ Ok w → r ≡ Ok w
 end_told (Ok t) m w is = is
 end_told (Err e) m w is = absurd (cc)

@@ -1,16 +1,16 @@
 -- The text of a witness reads as that witness.
-use Rattle.std.proofs.Common.{◌≡◌, ℕ, zero, suc, ◌+◌, ◌^◌, ◌<◌, ◌≤◌, ◌==◌, true, false, Option, Some, None, Ok, Result, List, [], ◌∷◌, ◌++◌, length, get_or, map, All, AllPairs, refl, sym, ap, ◌∙◌, subst, append_assoc, append-nil, length-append, arith}
+use Rattle.std.proofs.Common.{◌≡◌, ℕ, suc, ◌+◌, ◌^◌, ◌<◌, ◌≤◌, true, false, Option, Some, Ok, Result, List, [], ◌∷◌, ◌++◌, length, map, All, AllPairs, refl, sym, ap, ◌∙◌, subst, append_assoc, append-nil, arith}
 use Rattle.std.proofs.lemmas.List.{get_or-map, length-map}
 use Rattle.std.proofs.lemmas.List.Elements.{All-head, All-tail, All-weaker, All-map, All-from_get_or}
-use Rattle.cnf_core.specs.Literals.{Assignment, IsWithin}
+use Rattle.cnf_core.specs.Literals.{Assignment}
 use Rattle.cnf_core.specs.Formulas.{IsModel}
-use Rattle.model_store.specs.Stores.{Store, model_at, HoldsModels}
+use Rattle.model_store.specs.Stores.{model_at}
 use Rattle.model_store.specs.Witnesses.{IsInRange}
 use Rattle.model_store.specs.declared.witness.Witness.{Witness}
-use Rattle.text_lines.specs.Lines.{Line, lines_of, with_byte}
+use Rattle.text_lines.specs.Lines.{Line, lines_of}
 use Rattle.text_lines.specs.Readings.{FaultAt, at_line, steps, ended, ◌>>=◌}
 use Rattle.witness_text.specs.declared.line.WitnessLine.{WitnessLine}
-use Rattle.witness_text.specs.WitnessText.{digit_of, model_line, drop_line, model_lines, drop_lines, witness_text, named_by, named_drops, store_text}
+use Rattle.witness_text.specs.WitnessText.{digit_of, model_line, model_lines, drop_lines, witness_text, named_by}
 use Rattle.witness_text.specs.Reading.{Witnessed, none_read, with_model, last_var, with_drop, with_line}
 use Rattle.witness_text.specs.Texts.{or_fault, line_step, no_end_fault, witness_reading}
 use Rattle.witness_text.specs.Told.{HasLength, IsDropOf, HasLowerVar, IsWitness}

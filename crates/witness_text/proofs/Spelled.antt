@@ -1,5 +1,5 @@
 -- A line as it is written tells what it was written from.
-use Rattle.std.proofs.Common.{◌≡◌, ◌≢◌, ℕ, zero, suc, ◌+◌, ◌-◌, ◌*◌, ◌^◌, ◌<◌, ◌≤◌, ◌==◌, ◌&&◌, not, Bool, true, false, Option, Some, None, List, [], ◌∷◌, ◌++◌, length, get_or, map, fold, refl, sym, ap, ◌∙◌, append_assoc, arith, rules}
+use Rattle.std.proofs.Common.{◌≡◌, ℕ, zero, suc, ◌+◌, ◌-◌, ◌*◌, ◌^◌, ◌<◌, ◌≤◌, ◌==◌, ◌&&◌, not, Bool, true, false, Option, Some, None, List, [], ◌∷◌, ◌++◌, length, get_or, map, fold, refl, ap, ◌∙◌, append_assoc, arith, rules}
 use Rattle.std.specs.Prelude.{decimal, nat_lt, nat_le}
 use Rattle.std.specs.List.{list_all}
 use Rattle.std.specs.Char.{is_ascii_digit}
@@ -9,7 +9,7 @@ use Rattle.std.proofs.lemmas.Bool.{ne_eqb, eq-eqb, lt-ltb, le-leb, and_from, and
 use Rattle.std.proofs.lemmas.Fmt.{digits_decimal, digits_value-decimal, decimal_nonempty, decimal_digit, first_decimal}
 use Rattle.std.proofs.lemmas.Str.Parse.{IsNumeralModel, numerals_by_fold, numerals_by_value, tells_digits, digit_from_value}
 use Rattle.std.proofs.lemmas.List.{length-map}
-use Rattle.cnf_core.specs.Literals.{Literal, Assignment, IsWithin}
+use Rattle.cnf_core.specs.Literals.{Literal, Assignment}
 use Rattle.cnf_core.specs.Spelling.{literal_text, digits_value}
 use Rattle.witness_text.specs.declared.line.WitnessLine.{WitnessLine}
 use Rattle.witness_text.specs.WitnessText.{digit_of, model_line, drop_line}
@@ -42,7 +42,7 @@ digits_spare x low (d ∷ ds) digits =
 decimal_spares : (x n : ℕ) → x < 48 → n < 2 ^ 64 → Spares x (decimal n)
 decimal_spares x n low small = digits_spare x low (decimal n) (digits_decimal (numerals_by_value _ tells_digits) n small)
 
-literal_text-negative : (v : ℕ) → 0 < v → literal_text (record { var = v; positive = false }) ≡ 45 ∷ decimal v
+pub literal_text-negative : (v : ℕ) → 0 < v → literal_text (record { var = v; positive = false }) ≡ 45 ∷ decimal v
 literal_text-negative zero some = absurd (omega arith)
 literal_text-negative (suc n) some = refl
 
@@ -54,7 +54,7 @@ signed_spares x low false v some small =
 
 -- printed numbers are plain
 
-own : IsNumeralModel (λ ds. list_all is_ascii_digit ds ≡ true) digits_value
+pub own : IsNumeralModel (λ ds. list_all is_ascii_digit ds ≡ true) digits_value
 own = numerals_by_fold _ (search rules) (λ n ds. fold (λ m d. m * 10 + (d - 48)) n ds) (search rules)
 
 not_padded : (n : ℕ) → n < 2 ^ 64 → is_padded (decimal n) ≡ false

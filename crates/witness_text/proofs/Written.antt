@@ -1,9 +1,9 @@
 -- The lines of a list up to a place, and from there on; the digits of a model piece by piece.
-use Rattle.std.proofs.Common.{◌≡◌, ℕ, ◌+◌, ◌-◌, ◌*◌, ◌/◌, ◌<◌, ◌≤◌, min, Bool, false, List, [], ◌∷◌, ◌++◌, length, get_or, take, drop, map, set, sym, ap, ◌∙◌, ⊎_elim, append_assoc, arith}
+use Rattle.std.proofs.Common.{◌≡◌, ℕ, ◌+◌, ◌-◌, ◌<◌, ◌≤◌, min, false, List, [], ◌∷◌, ◌++◌, length, get_or, take, drop, map, set, sym, ap, ◌∙◌, ⊎_elim, append_assoc, arith}
 use Rattle.std.specs.List.{flat_map}
 use Rattle.std.proofs.Math.Seq.{take-add}
 use Rattle.std.proofs.lemmas.Bool.{cases_lt}
-use Rattle.std.proofs.lemmas.List.{take_more, take_more_set, take_all, take-append-drop, flat_map_more, map_more, map-append, get_or-map, get_or-drop, length-map, length-drop, length-set}
+use Rattle.std.proofs.lemmas.List.{take_more, take_more_set, take_all, take-append-drop, flat_map_more, map_more, map-append, get_or-map, get_or-drop, length-drop, length-set}
 use Rattle.std.proofs.lemmas.List.Concat.{flat_map-append}
 use Rattle.cnf_core.specs.Literals.{Assignment, value_of}
 use Rattle.witness_text.specs.WitnessText.{digit_of}

@@ -12,6 +12,11 @@ use Rattle.witness_text.specs.Told.{IsWitness}
 abbrev pub TextsTellWitnesses : Type 0
 TextsTellWitnesses = (n : ℕ) (text : List ℕ) (w : Witnessed) → witness_reading n text ≡ Ok w → IsWitness n w
 
+-- a text that reads is the text of what it tells: there is one spelling
+abbrev pub TextsAreSpelled : Type 0
+TextsAreSpelled = (n : ℕ) (text : List ℕ) (w : Witnessed) → n ≤ 2 ^ 20 → length w.models ≤ 2 ^ 64
+    → witness_reading n text ≡ Ok w → text ≡ witness_text w.models w.drops
+
 -- the text of a witness reads as that witness
 abbrev pub WitnessesReadBack : Type 0
 WitnessesReadBack = (n : ℕ) (w : Witnessed) → n ≤ 2 ^ 20 → length w.models ≤ 2 ^ 64 → IsWitness n w

@@ -1,5 +1,5 @@
 -- What is known of what a witness tells.
-use Rattle.std.specs.Prelude.{◌≡◌, ℕ, ◌<◌, List, length, All, AllPairs}
+use Rattle.std.specs.Prelude.{◌≡◌, ℕ, ◌<◌, length, All, AllPairs}
 use Rattle.cnf_core.specs.Literals.{Assignment, IsWithin}
 use Rattle.witness_text.specs.declared.line.WitnessLine.{WitnessLine}
 use Rattle.witness_text.specs.Reading.{Witnessed}

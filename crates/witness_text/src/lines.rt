@@ -1,6 +1,6 @@
 //! The lines of a witness that were read so far.
-ghost use Rattle.std.specs.Prelude.{◌≡◌, ◌≤◌, ◌^◌, [], length, IfOk};
-ghost use Rattle.witness_text.specs.Reading.{none_read, with_digits, can_be_model, with_drop_above, with_line, drop_of};
+ghost use Rattle.std.specs.Prelude.{◌≡◌, ◌≤◌, ◌^◌, length, nat_lt, IfOk};
+ghost use Rattle.witness_text.specs.Reading.{none_read, with_digits, can_be_model, with_drop_above, with_line, drop_of, last_var};
 ghost use Rattle.witness_text.specs.Steps.Taking.{Takes};
 
 use crate::drops::read_drop;
@@ -93,12 +93,19 @@ impl Lines {
             return Ok(false);
         };
         let var = drop.lit.var();
-        if var <= self.last {
+        if !self.is_below(var) {
             return Ok(false);
         }
         self.drops.push(drop)?;
         self.last = var;
         Ok(true)
+    }
+
+    /// Whether the last drop line's variable is below this one.
+    fn is_below(&self, var: u32) -> bool
+        ensures { result ≡ nat_lt (last_var self.now.drops) var }
+    {
+        self.last < var
     }
 
     /// The models, and the drop lines.

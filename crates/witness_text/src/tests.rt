@@ -106,7 +106,7 @@ fn plain_drop(
         return Ok(None);
     }
     for var in 1..=i32::from(vars) {
-        for number in [var, -var] {
+        for number in [var, var.wrapping_neg()] {
             for model in 0..models {
                 for flip in 0..2_u8 {
                     let text = format!(in alloc; "d {number} {model} {flip}")?;

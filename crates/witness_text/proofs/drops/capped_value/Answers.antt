@@ -1,4 +1,4 @@
-use Rattle.std.proofs.Common.{◌≡◌, ◌-◌, ◌^◌, min, take, ap, ◌∙◌, sym, arith}
+use Rattle.std.proofs.Common.{◌-◌, ◌^◌, min, ap, ◌∙◌, arith}
 use Rattle.std.proofs.lemmas.List.{take_all}
 use Rattle.cnf_core.specs.Spelling.{digits_value}
 use Rattle.witness_text.proofs.Numbers.{digits_value_more}

@@ -1,7 +1,7 @@
 -- Each turn sets the next bit where the digit is 1.
-use Rattle.std.proofs.Common.{◌≡◌, ◌*◌, ◌+◌, ◌-◌, ◌<◌, ◌==◌, length, min, sym, ap, ◌∙◌, subst, arith}
+use Rattle.std.proofs.Common.{◌≡◌, ◌*◌, ◌-◌, ◌<◌, ◌==◌, length, min, sym, ◌∙◌, arith}
 use Rattle.std.proofs.lemmas.List.{length-map}
-use Rattle.model_store.proofs.Bits.{HasBits, bits-none, bits-set, bits-clear, values_of_bits}
+use Rattle.model_store.proofs.Bits.{bits-none, bits-set, bits-clear, values_of_bits}
 use Rattle.witness_text.specs.Reading.{values_of}
 use Rattle.witness_text.proofs.packing.packed_word.Goals as goal
 use Rattle.witness_text.proofs.packing.packed_word.Goals.{then-is_one, else-is_one}

@@ -1,5 +1,5 @@
 -- Line after line.
-use Rattle.std.proofs.Common.{◌≡◌, ◌++◌, ◌+◌, ◌<◌, ◌≤◌, [], length, take, drop, refl, arith}
+use Rattle.std.proofs.Common.{◌++◌, ◌+◌, ◌<◌, ◌≤◌, [], length, take, drop, refl, arith}
 use Rattle.std.proofs.lemmas.Result.{err_from_is_err_and}
 use Rattle.bone_desk.proofs.Pieces.{pushed_as, cut_as, pushed_none, pushed_next, cut_next, cut_before}
 use Rattle.model_store.specs.Stores.{model_at}

@@ -1,8 +1,8 @@
 -- Chunk after chunk.
-use Rattle.std.proofs.Common.{◌≡◌, ◌++◌, ◌+◌, ◌-◌, ◌*◌, ◌/◌, ◌<◌, ◌≤◌, ℕ, List, [], length, map, take, drop, min, subst, sym, ◌∙◌, arith}
+use Rattle.std.proofs.Common.{◌≡◌, ◌++◌, ◌+◌, ◌*◌, ◌<◌, ◌≤◌, length, map, take, drop, sym, ◌∙◌, arith}
 use Rattle.std.proofs.lemmas.Result.{err_from_is_err_and}
 use Rattle.bone_desk.proofs.Pieces.{pushed_as, cut_as, pushed_none, pushed_next, cut_next, cut_before}
-use Rattle.model_store.specs.Stores.{Store, model_at, HoldsModels}
+use Rattle.model_store.specs.Stores.{model_at}
 use Rattle.model_store.proofs.Flipped.{model_at_is_model}
 use Rattle.witness_text.specs.WitnessText.{digit_of}
 use Rattle.witness_text.proofs.Written.{chunk_more, chunk_around, chunk_all}

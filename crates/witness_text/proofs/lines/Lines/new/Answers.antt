@@ -1,4 +1,4 @@
-use Rattle.std.proofs.Common.{◌≡◌, List, ℕ, [], ap, ◌∙◌}
+use Rattle.std.proofs.Common.{List, ℕ, [], ap, ◌∙◌}
 use Rattle.witness_text.specs.declared.line.WitnessLine.{WitnessLine}
 use Rattle.witness_text.proofs.Gathered.{seen, seen-none}
 use Rattle.witness_text.proofs.lines.Lines.new.Goals as goal

@@ -1,4 +1,4 @@
-use Rattle.std.proofs.Common.{◌≡◌, ◌+◌, ◌<◌, ◌≤◌, length, refl, sym, subst, arith}
+use Rattle.std.proofs.Common.{◌+◌, ◌<◌, ◌≤◌, length, refl, sym, subst, arith}
 use Rattle.cnf_core.specs.Literals.{Assignment}
 use Rattle.witness_text.specs.Models.{model_in}
 use Rattle.witness_text.proofs.Placed.{IsCopied, copied-more, copied-all}

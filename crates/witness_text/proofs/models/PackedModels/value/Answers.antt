@@ -1,6 +1,5 @@
 -- The bit at the variable's place in the words of the model.
-use Rattle.std.proofs.Common.{◌≡◌, ◌+◌, ◌-◌, ◌*◌, ◌/◌, ◌<◌, length, arith}
-use Rattle.model_store.specs.Steps.Packed.{words_for}
+use Rattle.std.proofs.Common.{arith}
 use Rattle.witness_text.proofs.Placed.{word_within, bit_is_value}
 use Rattle.witness_text.proofs.models.PackedModels.value.Goals as goal
 
