@@ -1,10 +1,10 @@
 -- Lines of texts that are put together.
-use Rattle.std.proofs.Common.{◌≡◌, ◌≢◌, ℕ, suc, ◌+◌, ◌<◌, ◌≤◌, ◌==◌, Bool, true, false, List, [], ◌∷◌, ◌++◌, length, All, refl, sym, ◌∙◌, ap, arith}
+use Rattle.std.proofs.Common.{◌≡◌, ◌≢◌, ℕ, suc, ◌≤◌, ◌==◌, Bool, true, false, List, [], ◌∷◌, ◌++◌, length, refl, sym, ◌∙◌, ap, arith}
 use Rattle.std.specs.Prelude.{if◌then◌else◌}
 use Rattle.std.specs.List.{flat_map}
 use Rattle.std.proofs.lemmas.List.{append_assoc, append-nil}
 use Rattle.std.proofs.lemmas.List.Elements.{All-head, All-tail}
-use Rattle.std.proofs.lemmas.Bool.{ne_eqb, eqb-true, cases_Bool}
+use Rattle.std.proofs.lemmas.Bool.{ne_eqb, eqb-true}
 use Rattle.text_lines.specs.Lines.{Line, lines_of, with_byte, text_of_line, IsFront, IsPlain}
 
 abbrev IsNoFeed : ℕ → Type 0
@@ -15,7 +15,7 @@ abbrev behind : Bool → ℕ → List Line → List Line
 behind t b ls = if t then record { bytes = []; ended = true } ∷ ls else with_byte b ls
 
 pub lines_byte : (b : ℕ) (bs : List ℕ) → b ≢ 10 → lines_of (b ∷ bs) ≡ with_byte b (lines_of bs)
-lines_byte b bs no = ap (λ (t : Bool). behind t b (lines_of bs)) (ne_eqb b 10 no)
+lines_byte b bs other = ap (λ (t : Bool). behind t b (lines_of bs)) (ne_eqb b 10 other)
 
 -- a line with its line feed stands before the lines of the rest
 pub lines_ended : (bytes rest : List ℕ) → IsPlain bytes
