@@ -180,8 +180,10 @@ drop_of-body n count d is small wide =
     ap (λ (bs : List ℕ). value_of_digit (behind_space bs)) behind
     ∙ ap value_of_digit (behind_space-word number (digit_of d.flip ∷ []) number_word)
     ∙ value_of_digit-digit d.flip in
-    ap (λ (l : Option Literal). joined l (number_below count (before_space (behind_space (drop_body d)))) (value_of_digit (behind_space (behind_space (drop_body d))))) lit_is
-    ∙ ap (λ (k : Option ℕ). joined (Some d.lit) k (value_of_digit (behind_space (behind_space (drop_body d))))) model_is
+    let k = number_below count (before_space (behind_space (drop_body d))) in
+    let f = value_of_digit (behind_space (behind_space (drop_body d))) in
+    ap (λ (l : Option Literal). joined l k f) lit_is
+    ∙ ap (λ (n : Option ℕ). joined (Some d.lit) n f) model_is
     ∙ ap (joined (Some d.lit) (Some d.model)) flip_is
 
 pub with_line-drop : (w : Witnessed) (d : WitnessLine) → IsDropOf w.vars (length w.models) d → w.vars ≤ 2 ^ 20

@@ -111,8 +111,11 @@ digit_spelled (b ∷ c ∷ more) f is = absurd (cc)
 joined_parts : (l : Option Literal) (k : Option ℕ) (f : Option Bool) (d : WitnessLine) → joined l k f ≡ Some d
     → (l ≡ Some d.lit) × (k ≡ Some d.model) × (f ≡ Some d.flip)
 joined_parts (Some l) (Some k) (Some f) d is =
-    let same_line = inner (record { lit = l; model = k; flip = f }) d is in
-    (ap (λ (e : WitnessLine). Some e.lit) same_line, ap (λ (e : WitnessLine). Some e.model) same_line, ap (λ (e : WitnessLine). Some e.flip) same_line)
+    let same_line = inner (record { lit = l; model = k; flip = f }) d is in (
+      ap (λ (e : WitnessLine). Some e.lit) same_line,
+      ap (λ (e : WitnessLine). Some e.model) same_line,
+      ap (λ (e : WitnessLine). Some e.flip) same_line,
+    )
 joined_parts (Some l) (Some k) None d is = absurd (cc)
 joined_parts (Some l) None f d is = absurd (cc)
 joined_parts None k f d is = absurd (cc)

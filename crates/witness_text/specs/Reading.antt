@@ -1,4 +1,5 @@
 -- What a witness's lines tell, and which line is none. A line is given here without its line feed.
+-- The bytes by their codes: 48 and 49 are `0` and `1`, 45 is `-`, 32 is a space, 109 is `m` and 100 is `d`.
 use Rattle.std.specs.Prelude.{ℕ, ◌==◌, ◌&&◌, nat_lt, nat_le, Bool, true, false, not, if◌then◌else◌, Option, Some, None, List, [], ◌∷◌, ◌++◌, length, map, fold, slice_index}
 use Rattle.std.specs.List.{list_all}
 use Rattle.std.specs.Char.{is_ascii_digit}
@@ -54,24 +55,28 @@ signed_literal n positive ds =
     if is_plain ds && (nat_lt 0 (digits_value ds) && nat_le (digits_value ds) n)
     then Some (record { var = digits_value ds; positive = positive }) else None
 
+-- the same with a minus sign before a negative one
 abbrev pub literal_within : ℕ → List ℕ → Option Literal
 literal_within n [] = None
 literal_within n (b ∷ ds) = if b == 45 then signed_literal n false ds else signed_literal n true (b ∷ ds)
 
+-- the truth value that one digit writes
 abbrev pub value_of_digit : List ℕ → Option Bool
 value_of_digit [] = None
 value_of_digit (b ∷ []) = if is_bit b then Some (b == 49) else None
 value_of_digit (b ∷ c ∷ more) = None
 
--- the bytes before the first space, all of them where there is none, and the bytes behind it
+-- the bytes before the first space, and all of them where there is none
 abbrev pub before_space : List ℕ → List ℕ
 before_space [] = []
 before_space (b ∷ bs) = if b == 32 then [] else b ∷ before_space bs
 
+-- the bytes behind the first space, and none where there is none
 abbrev pub behind_space : List ℕ → List ℕ
 behind_space [] = []
 behind_space (b ∷ bs) = if b == 32 then bs else behind_space bs
 
+-- a drop line, where each of its parts was read
 abbrev pub joined : Option Literal → Option ℕ → Option Bool → Option WitnessLine
 joined (Some l) (Some k) (Some f) = Some (record { lit = l; model = k; flip = f })
 joined (Some l) (Some k) None = None

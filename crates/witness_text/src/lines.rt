@@ -1,6 +1,7 @@
 //! The lines of a witness that were read so far.
 ghost use Rattle.std.specs.Prelude.{◌≡◌, ◌≤◌, ◌^◌, length, nat_lt, IfOk};
-ghost use Rattle.witness_text.specs.Reading.{none_read, with_digits, can_be_model, with_drop_above, with_line, drop_of, last_var};
+ghost use Rattle.witness_text.specs.Reading.{none_read, with_digits, can_be_model, with_drop_above, with_line};
+ghost use Rattle.witness_text.specs.Reading.{drop_of, last_var};
 ghost use Rattle.witness_text.specs.Steps.Taking.{Takes};
 
 use crate::drops::read_drop;
@@ -87,7 +88,8 @@ impl Lines {
 
     /// Takes the drop line that these bytes are behind its letter and space, if it can stand here.
     fn take_drop(&mut self, line: &[u8]) -> Result<bool, NoMemory>
-        ensures { IfOk result (Takes (with_drop_above self.old (drop_of self.old.vars (length self.old.models) line.now)) self.new) }
+        ensures { IfOk result (Takes
+            (with_drop_above self.old (drop_of self.old.vars (length self.old.models) line.now)) self.new) }
     {
         let Some(drop) = read_drop(line, self.vars, self.count) else {
             return Ok(false);

@@ -50,5 +50,6 @@ returns-clause-ok g c =
     let s = c.args.models.now in
     let drops = c.args.drops.now in
     let xs = named_drops s drops in
-    let le : length xs ≤ c.loop-witness.witness-index = omega (arith, length-map drops (named_by (model_at s 0)), c.loop-witness-test.false) in
+    let le : length xs ≤ c.loop-witness.witness-index =
+    omega (arith, length-map drops (named_by (model_at s 0)), c.loop-witness-test.false) in
     pushed_as (lines_all drop_line xs c.loop-witness.witness-index le) c.loop-witness.invariant

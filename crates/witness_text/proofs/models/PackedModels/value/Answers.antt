@@ -27,4 +27,5 @@ index-requires c =
 pub returns : goal.returns
 returns c =
     bit_is_value c.self.inside.words.items c.self.inside.vars c.self.inside.count c.args.self.now c.words_for.result c.args.model c.args.var
-    c.index.result.now c.self.view_is c.self.invariant c.words_for.ensures c.requires.model_in c.requires.var_in.0 c.requires.var_in.1 c.index.ensures
+    c.index.result.now c.self.view_is c.self.invariant c.words_for.ensures
+    c.requires.model_in c.requires.var_in.0 c.requires.var_in.1 c.index.ensures
