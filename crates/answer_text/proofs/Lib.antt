@@ -2,3 +2,5 @@ mod Lines
 pub mod Verdicts
 mod Digits
 mod Endings
+mod Spelled
+mod SoFar

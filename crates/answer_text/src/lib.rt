@@ -3,6 +3,7 @@
 #![tactic(auto)]
 
 mod answer;
+mod laws;
 mod read;
 mod stage;
 mod write;
