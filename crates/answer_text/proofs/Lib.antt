@@ -4,3 +4,5 @@ mod Digits
 mod Endings
 mod Spelled
 mod SoFar
+mod ReadBack
+mod RoundTrip
