@@ -1,4 +1,3 @@
-use Rattle.answer_text.proofs.RoundTrip.{groups_join}
 use Rattle.answer_text.proofs.SoFar.{read_is_text}
 use Rattle.answer_text.proofs.laws.what_is_read_is_the_text.Goals as goal
 
