@@ -1,21 +1,19 @@
 -- The text of an answer in order reads back as that answer.
-use Rattle.std.proofs.Common.{◌≡◌, ◌≢◌, ℕ, zero, suc, ◌+◌, ◌<◌, ◌≤◌, ◌^◌, Bool, true, false, List, [], ◌∷◌, ◌++◌, length, All, Option, Some, None, Result, Ok, Err, refl, sym, ◌∙◌, ap, subst, arith, get_or, map}
-use Rattle.std.specs.Prelude.{if◌then◌else◌, nat_lt, nat_le, ◌==◌, codes, bytes_eq, flat_map, decimal}
+use Rattle.std.proofs.Common.{◌≡◌, ◌≢◌, ℕ, zero, suc, ◌<◌, ◌≤◌, ◌^◌, Bool, true, false, List, [], ◌∷◌, ◌++◌, length, All, Some, None, refl, sym, ◌∙◌, ap, subst, arith, get_or}
+use Rattle.std.specs.Prelude.{if◌then◌else◌, flat_map, decimal}
 use Rattle.std.specs.Int.{IsInRange}
 use Rattle.std.specs.Str.Parse.{AllDigits}
-use Rattle.std.proofs.lemmas.Bool.{ne_eqb, lt-ltb, le-leb, false_from_ne_true}
+use Rattle.std.proofs.lemmas.Bool.{ne_eqb, le-leb}
 use Rattle.std.proofs.lemmas.Fmt.{digits_decimal, decimal_nonempty, first_decimal}
 use Rattle.std.proofs.lemmas.Str.Parse.{numerals_by_value, tells_digits, digit_from_value}
-use Rattle.std.proofs.lemmas.Slice.Eq.{bytes_eq-Decides}
-use Rattle.std.proofs.lemmas.List.{append_assoc, append-nil}
-use Rattle.std.proofs.lemmas.List.Elements.{All-head, All-tail, All-nil, All-cons, All-append}
-use Rattle.cnf_core.specs.Literals.{Literal, Literals, IsWithin, AreWithin, RisesByVar}
+use Rattle.std.proofs.lemmas.List.{append_assoc}
+use Rattle.std.proofs.lemmas.List.Elements.{All-head, All-tail, All-nil, All-cons}
+use Rattle.cnf_core.specs.Literals.{Literal, IsWithin}
 use Rattle.cnf_core.specs.Spelling.{literal_text, number_of_digits}
 use Rattle.cnf_core.proofs.Numerals.{number_of_digits-decimal}
 use Rattle.text_lines.specs.Lines.{Line, text_of_line, lines_of, IsPlain}
 use Rattle.text_lines.proofs.Lines.{lines_ended}
-use Rattle.answer_text.specs.declared.stage.LineFault.{LineFault}
-use Rattle.answer_text.specs.Reading.{up_to, variable_of, signed_literal, literal_of, line_literal}
+use Rattle.answer_text.specs.Reading.{up_to, variable_of, signed_literal, literal_of}
 
 -- a variable's digits
 record IsWritten (vars n : ℕ) : Type 0 where

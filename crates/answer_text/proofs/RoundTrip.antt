@@ -1,5 +1,5 @@
 -- The lines of an answer in order are taken one by one.
-use Rattle.std.proofs.Common.{◌≡◌, ◌≢◌, ℕ, zero, suc, ◌+◌, ◌<◌, ◌≤◌, ◌^◌, Bool, true, false, List, [], ◌∷◌, ◌++◌, length, All, Option, Some, None, Result, Ok, Err, refl, sym, ◌∙◌, ap, subst, arith, get_or, map, drop}
+use Rattle.std.proofs.Common.{◌≡◌, ◌≢◌, ℕ, suc, ◌+◌, ◌<◌, ◌≤◌, ◌^◌, Bool, true, false, List, [], ◌∷◌, ◌++◌, length, All, Some, None, Result, Ok, Err, refl, sym, ◌∙◌, ap, arith, get_or, map, drop}
 use Rattle.std.specs.Prelude.{if◌then◌else◌, nat_lt, ◌==◌, codes, bytes_eq, flat_map, not}
 use Rattle.std.specs.List.{list_all}
 use Rattle.std.proofs.lemmas.Bool.{ne_eqb, eqb-false, lt-ltb, false_from_ne_true, or_from, and_parts, not-true}
@@ -10,16 +10,15 @@ use Rattle.std.proofs.lemmas.List.Elements.{All-head, All-tail, All-nil, All-con
 use Rattle.cnf_core.specs.Literals.{Literal, Literals, IsWithin, AreWithin, RisesByVar}
 use Rattle.cnf_core.specs.Spelling.{literal_text}
 use Rattle.text_lines.specs.Lines.{Line, text_of_line, lines_of, IsPlain}
-use Rattle.text_lines.specs.Readings.{FaultAt, ◌>>=◌, at_line, steps, ended, reading}
+use Rattle.text_lines.specs.Readings.{◌>>=◌, at_line, steps, ended}
 use Rattle.answer_text.specs.declared.stage.Stage.{Stage}
 use Rattle.answer_text.specs.declared.stage.Stage.TheVariants as stage
 use Rattle.answer_text.specs.declared.stage.LineFault.{LineFault}
 use Rattle.answer_text.specs.declared.stage.LineFault.TheVariants.{Bad, NotSorted}
-use Rattle.answer_text.specs.declared.answer.Answer.{Answer}
 use Rattle.answer_text.specs.declared.answer.Answer.TheVariants.{Unsat, Sat, Partial, Unknown}
-use Rattle.answer_text.specs.AnswerText.{literal_line, literal_lines, groups_text, unsat_text, unknown_text, text_of, SharesNoVar}
-use Rattle.answer_text.specs.Reading.{Read, nothing_read, literal_of, line_literal, has_var, fixed_line, still_line, opened, either_line, line_at, line_read, end_at, end_read, reading_of}
-use Rattle.answer_text.specs.Laws.{ReadsBack, TextsReadBack}
+use Rattle.answer_text.specs.AnswerText.{literal_line, literal_lines, groups_text, text_of, SharesNoVar}
+use Rattle.answer_text.specs.Reading.{Read, nothing_read, literal_of, has_var, fixed_line, still_line, either_line, line_read, end_at, end_read, reading_of}
+use Rattle.answer_text.specs.Laws.{TextsReadBack}
 use Rattle.answer_text.proofs.ReadBack.{IsWholeLine, lines_back, read_back}
 
 abbrev at : ℕ → Stage → Literals → Literals → ℕ → Read
@@ -56,13 +55,13 @@ from_start vars lits rises within = rising_of 0 lits rises (λ k d in_range. (wi
 -- a row is no end line
 fixed_row_goes_on : (vars : ℕ) (l : Literal) → vars ≤ 2 ^ 20 → IsWithin vars l → bytes_eq (98 ∷ 32 ∷ literal_text l) (codes "b 0") ≡ false
 fixed_row_goes_on vars l small within = false_from_ne_true (bytes_eq (98 ∷ 32 ∷ literal_text l) (codes "b 0")) (λ is.
-  let same : literal_text l ≡ 48 ∷ [] = ap (λ (b : List ℕ). drop 2 b) ((bytes_eq-Decides (98 ∷ 32 ∷ literal_text l) (codes "b 0")).0 is) in
-  let wrong = sym (ap (literal_of vars) same) ∙ (read_back vars l small within).literal in absurd (cc wrong))
+    let same : literal_text l ≡ 48 ∷ [] = ap (λ (b : List ℕ). drop 2 b) ((bytes_eq-Decides (98 ∷ 32 ∷ literal_text l) (codes "b 0")).0 is) in
+    let wrong = sym (ap (literal_of vars) same) ∙ (read_back vars l small within).literal in absurd (cc wrong))
 
 still_row_goes_on : (l : Literal) → bytes_eq (117 ∷ 32 ∷ literal_text l) (codes "b 0") ≡ false
 still_row_goes_on l = false_from_ne_true (bytes_eq (117 ∷ 32 ∷ literal_text l) (codes "b 0")) (λ is.
-  let same : 117 ≡ 98 = ap (λ (b : List ℕ). get_or b 0 0) ((bytes_eq-Decides (117 ∷ 32 ∷ literal_text l) (codes "b 0")).0 is) in
-  absurd (omega (arith, same)))
+    let same : 117 ≡ 98 = ap (λ (b : List ℕ). get_or b 0 0) ((bytes_eq-Decides (117 ∷ 32 ∷ literal_text l) (codes "b 0")).0 is) in
+    absurd (omega (arith, same)))
 
 -- one row of the first group
 takes_fixed : (vars : ℕ) (st : Stage) (fixed still : Literals) (last : ℕ) (l : Literal) → last < l.var
@@ -117,7 +116,7 @@ taken n r s l rest is = ap (λ given. at_line n given >>= λ t. steps line_read 
 -- all rows of a group
 rows_fixed : (vars : ℕ) (st : Stage) (still : Literals) → vars ≤ 2 ^ 20
     → ((fixed : Literals) (last : ℕ) (l : Literal) → IsWithin vars l → last < l.var
-      → line_read (at vars st fixed still last) (row 98 l) ≡ fine (at vars st (fixed ++ l ∷ []) still l.var))
+    → line_read (at vars st fixed still last) (row 98 l) ≡ fine (at vars st (fixed ++ l ∷ []) still l.var))
     → (n : ℕ) (fixed : Literals) (last : ℕ) (lits : Literals) (rest : List Line) → Rising last lits → AreWithin vars lits
     → steps line_read n (at vars st fixed still last) (map (row 98) lits ++ rest)
     ≡ steps line_read (n + length lits) (at vars st (fixed ++ lits) still (end_last last lits)) rest
@@ -130,7 +129,6 @@ rows_fixed vars st still small takes n fixed last (l ∷ ls) rest rising within 
     ∙ rows_fixed vars st still small takes (n + 1) (fixed ++ l ∷ []) l.var ls rest rising.1 (All-tail (IsWithin vars) l ls within)
     ∙ ap (λ (f : Literals). steps line_read (n + 1 + length ls) (at vars st f still (end_last l.var ls)) rest) (append_assoc fixed (l ∷ []) ls)
     ∙ ap (λ (m : ℕ). steps line_read m (at vars st (fixed ++ l ∷ ls) still (end_last l.var ls)) rest) (omega arith)
-
 
 rows_still : (vars : ℕ) (fixed : Literals) → vars ≤ 2 ^ 20 → (n : ℕ) (still : Literals) (last : ℕ) (lits : Literals) (rest : List Line) → Rising last lits
     → AreWithin vars lits → All (λ (l : Literal). has_var fixed l.var ≡ false) lits
@@ -233,7 +231,7 @@ sat_steps vars fixed small rises within =
 still_steps : (vars n : ℕ) (fixed still : Literals) (last : ℕ) → vars ≤ 2 ^ 20 → RisesByVar still → AreWithin vars still
     → All (λ (l : Literal). has_var fixed l.var ≡ false) still
     → (s : Read) × (steps line_read n (at vars stage.Fixed fixed [] last) (map (row 117) still ++ line (codes "b 0") ∷ []) ≡ Ok s)
-      × ((s.stage ≡ stage.Partial) × (s.fixed ≡ fixed) × (s.still ≡ still))
+    × ((s.stage ≡ stage.Partial) × (s.fixed ≡ fixed) × (s.still ≡ still))
 still_steps vars n fixed [] last small rises within free = (
   at vars stage.Partial fixed [] last,
   taken n (at vars stage.Fixed fixed [] last) (at vars stage.Partial fixed [] last) (line (codes "b 0")) [] refl,

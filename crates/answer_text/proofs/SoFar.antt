@@ -1,5 +1,5 @@
 -- The text of the lines so far is that of what they say.
-use Rattle.std.proofs.Common.{◌≡◌, ◌≢◌, ℕ, suc, ◌+◌, ◌<◌, ◌≤◌, ◌^◌, Bool, true, false, List, [], ◌∷◌, ◌++◌, length, All, Option, Some, None, Result, Ok, Err, refl, sym, ◌∙◌, ap, subst, arith, get_or}
+use Rattle.std.proofs.Common.{◌≡◌, ◌≢◌, ℕ, ◌+◌, ◌<◌, ◌≤◌, ◌^◌, Bool, true, false, List, [], ◌∷◌, ◌++◌, length, All, Option, Some, None, Result, Ok, Err, refl, sym, ◌∙◌, ap, subst, arith, get_or}
 use Rattle.std.specs.Prelude.{if◌then◌else◌, nat_lt, ◌==◌, codes, bytes_eq, flat_map}
 use Rattle.std.proofs.lemmas.Bool.{eqb-false, ltb-true, or_parts}
 use Rattle.std.proofs.lemmas.Slice.Eq.{bytes_eq-Decides}
@@ -9,7 +9,7 @@ use Rattle.std.proofs.lemmas.List.Quantifiers.{all_pairs_push}
 use Rattle.std.proofs.lemmas.List.Elements.{All-cons, All-nil, All-push, All-weaker}
 use Rattle.cnf_core.specs.Literals.{Literal, Literals, IsWithin, AreWithin, RisesByVar}
 use Rattle.text_lines.specs.Lines.{Line, text_of_line, lines_of}
-use Rattle.text_lines.specs.Readings.{FaultAt, ◌>>=◌, at_line, steps, ended, reading}
+use Rattle.text_lines.specs.Readings.{FaultAt, ◌>>=◌, at_line, steps, ended}
 use Rattle.text_lines.proofs.Lines.{lines_join}
 use Rattle.answer_text.specs.declared.stage.Stage.{Stage}
 use Rattle.answer_text.specs.declared.stage.Stage.TheVariants as stage
@@ -17,10 +17,10 @@ use Rattle.answer_text.specs.declared.stage.LineFault.{LineFault}
 use Rattle.answer_text.specs.declared.stage.LineFault.TheVariants.{Bad, NotSorted}
 use Rattle.answer_text.specs.declared.answer.Answer.{Answer}
 use Rattle.answer_text.specs.declared.answer.Answer.TheVariants.{Unsat, Sat, Partial, Unknown}
-use Rattle.answer_text.specs.AnswerText.{literal_line, literal_lines, fixed_lines, still_lines, groups_text, unsat_text, sat_text, partial_text, unknown_text, text_of, SharesNoVar, IsPartialInOrder, IsInOrder}
-use Rattle.answer_text.specs.Reading.{Read, nothing_read, line_literal, has_var, verdict_line, fixed_line, still_line, opened, either_line, end_or, line_at, line_read, end_read, reading_of}
+use Rattle.answer_text.specs.AnswerText.{literal_line, literal_lines, fixed_lines, still_lines, groups_text, unsat_text, partial_text, unknown_text, SharesNoVar}
+use Rattle.answer_text.specs.Reading.{Read, nothing_read, line_literal, has_var, verdict_line, fixed_line, still_line, either_line, line_at, line_read, end_read, reading_of}
 use Rattle.answer_text.specs.Answers.{Says}
-use Rattle.answer_text.specs.Laws.{IsWithinVars, ReadsBack, IsTextOf, ReadIsText}
+use Rattle.answer_text.specs.Laws.{IsTextOf, ReadIsText}
 use Rattle.answer_text.proofs.Spelled.{line_spelled, IsLineOf}
 
 abbrev front_text : Stage → Literals → Literals → List ℕ

@@ -1,24 +1,19 @@
 -- What was read is the text of what it says.
-use Rattle.std.proofs.Common.{◌≡◌, ◌≢◌, ℕ, zero, suc, ◌+◌, ◌-◌, ◌*◌, ◌<◌, ◌≤◌, ◌^◌, Bool, true, false, List, [], ◌∷◌, ◌++◌, length, All, Option, Some, None, Result, Ok, Err, refl, sym, ◌∙◌, ap, subst, arith, rules, get_or}
-use Rattle.std.specs.Prelude.{fold, if◌then◌else◌, nat_le, nat_lt, ◌==◌, ◌&&◌, decimal, codes, bytes_eq, flat_map, IfSome}
-use Rattle.std.specs.List.{list_all, list_any}
+use Rattle.std.proofs.Common.{◌≡◌, ℕ, zero, suc, ◌+◌, ◌-◌, ◌*◌, ◌<◌, ◌≤◌, ◌^◌, Bool, true, false, List, [], ◌∷◌, ◌++◌, Option, Some, None, refl, sym, ◌∙◌, ap, subst, arith, rules}
+use Rattle.std.specs.Prelude.{fold, if◌then◌else◌, nat_le, ◌==◌, ◌&&◌, decimal, IfSome}
+use Rattle.std.specs.List.{list_all}
 use Rattle.std.specs.Char.{is_ascii_digit}
-use Rattle.std.proofs.lemmas.Bool.{leb-true, eqb-true, eqb-false, ltb-true, and_parts, or_parts}
+use Rattle.std.proofs.lemmas.Bool.{leb-true, eqb-true, eqb-false, and_parts}
 use Rattle.std.proofs.lemmas.Fmt.{decimal-digits_value}
 use Rattle.std.proofs.lemmas.Str.Parse.{IsNumeralModel, numerals_by_fold}
-use Rattle.std.proofs.lemmas.Slice.Eq.{bytes_eq-Decides}
-use Rattle.std.proofs.lemmas.List.{append_assoc, append-nil}
-use Rattle.std.proofs.lemmas.List.Concat.{flat_map-append}
-use Rattle.std.proofs.lemmas.List.Elements.{All-cons, All-nil, All-push}
-use Rattle.cnf_core.specs.Literals.{Literal, Literals, IsWithin}
+use Rattle.cnf_core.specs.Literals.{Literal, IsWithin}
 use Rattle.cnf_core.specs.Spelling.{digits_value, number_of_digits, literal_text}
-use Rattle.answer_text.specs.Reading.{up_to, variable_of, signed_literal, literal_of, line_literal, has_var}
+use Rattle.answer_text.specs.Reading.{up_to, variable_of, signed_literal, literal_of, line_literal}
 use Rattle.answer_text.specs.AnswerText.{literal_line}
 use Rattle.answer_text.proofs.Digits.{variable_range}
 
 own : IsNumeralModel (λ ds. list_all is_ascii_digit ds ≡ true) digits_value
 own = numerals_by_fold _ (search rules) (λ n ds. fold (λ m d. m * 10 + (d - 48)) n ds) (search rules)
-
 
 module _ (vars d : ℕ) (ds : List ℕ) (n : ℕ) (small : vars ≤ 2 ^ 20) where
   by_size : (t : Bool) → nat_le (digits_value (d ∷ ds)) vars ≡ t → (if t then Some (digits_value (d ∷ ds)) else None) ≡ Some n
