@@ -225,7 +225,7 @@ fn push(
 }
 
 /// A witness by its parts.
-fn witness(var: u32, model: u32, flip: bool) -> Witness
+fn witness_of(var: u32, model: u32, flip: bool) -> Witness
     ensures { result ≡ record { var = var; model = model; flip = flip } }
 {
     Witness { var, model, flip }
@@ -242,9 +242,9 @@ fn three_drops(alloc: Global, formula: &Formula, models: &ModelStore) -> Result<
         return Err("another store".into());
     }
     let mut drops = Vec::new(alloc);
-    drops.push(witness(1, 1, false))?;
-    drops.push(witness(2, 0, true))?;
-    drops.push(witness(3, 0, true))?;
+    drops.push(witness_of(1, 1, false))?;
+    drops.push(witness_of(2, 0, true))?;
+    drops.push(witness_of(3, 0, true))?;
     Ok(drops)
 }
 
