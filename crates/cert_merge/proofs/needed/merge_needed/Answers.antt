@@ -14,7 +14,7 @@ use Rattle.cert_merge.proofs.OrderedLines.{ordered_lines, ordered_merged, ordere
 use Rattle.cert_merge.specs.Steps.Numbered.{places_of}
 use Rattle.cert_merge.proofs.needed.merge_needed.Goals as goal
 
-ordered : (c : goal.After-drop-order-2)
+ordered : (c : goal.After-drop-order-3)
     → IsOrdered c.args.formula.now c.args.logs.now c.in_ok-order.order.ids.items (places_of c.args.logs.now c.in_ok-order.order.numbers.items)
 ordered c = record {
   are_logs = c.in_ok-order.ensures.logs;
@@ -26,10 +26,10 @@ ordered c = record {
 }
 
 -- the merged proof, which isn't made
-abbrev merged : goal.After-drop-order-2 → List Line
+abbrev merged : goal.After-drop-order-3 → List Line
 merged c = lines_of c.args.formula.now c.args.logs.now c.in_ok-order.order.ids.items (places_of c.args.logs.now c.in_ok-order.order.numbers.items)
 
-abbrev IsIt : goal.After-drop-order-2 → List Line → Type 0
+abbrev IsIt : goal.After-drop-order-3 → List Line → Type 0
 IsIt c kept = IsTrimmed c.args.formula.now (merged c) c.args.keep.now kept
 
 pub returns-clause-tidy : goal.returns-clause-tidy
