@@ -47,8 +47,13 @@ numbered_place logs p place =
 pub number_below : (logs : List Recorded) (starts : List ℕ) (p : Place) → AreStarts logs starts → IsPlace logs p
     → get_or starts p.log 0 + p.entry < get_or starts (p.log + 1) 0
 number_below logs starts p are place =
-    omega (arith, are.each p.log 0 (omega (arith, place.log_within)), are.each (p.log + 1) 0 (omega (arith, place.log_within)),
-    start_more logs p.log place.log_within, place.within)
+    omega (
+      arith,
+      are.each p.log 0 (omega (arith, place.log_within)),
+      are.each (p.log + 1) 0 (omega (arith, place.log_within)),
+      start_more logs p.log place.log_within,
+      place.within,
+    )
 
 pub started_place : (logs : List Recorded) (starts : List ℕ) (p : Place) → AreStarts logs starts → IsPlace logs p
     → place_from 0 logs (get_or starts p.log 0 + p.entry) ≡ p

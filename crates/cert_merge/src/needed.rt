@@ -67,14 +67,7 @@ impl MergedOrder {
         let ids = new_ids(alloc, formula.clauses().len() as u64, &marks)?;
         let mut lines = Vec::new(alloc);
         for k in 0..self.numbers.len() {
-            self.push_if(
-                marks[k],
-                self.place_at(k),
-                formula,
-                logs,
-                &ids,
-                &mut lines,
-            )?;
+            self.push_if(marks[k], self.place_at(k), formula, logs, &ids, &mut lines)?;
         }
         Ok(Proof { lines })
     }

@@ -238,7 +238,9 @@ impl Merger {
         match logs[place.log].kind(place.entry) {
             Kind::Import => self.take_import(formula, logs, place),
             Kind::Unit => self.take_unit(formula, logs, starts, place),
-            Kind::Learnt | Kind::Core | Kind::Empty => self.take_clause(formula, logs, starts, place),
+            Kind::Learnt | Kind::Core | Kind::Empty => self.take_clause(
+                formula, logs, starts, place,
+            ),
         }
     }
 

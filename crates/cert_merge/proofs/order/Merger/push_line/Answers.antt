@@ -6,13 +6,19 @@ use Rattle.cert_merge.proofs.order.Merger.push_line.Goals as goal
 
 pub overflow_cast-place : goal.overflow_cast-place
 overflow_cast-place c =
-    omega (arith, number_below c.args.logs.now c.args.starts.now c.args.place c.requires.starts c.requires.place,
-    c.type_inv.starts (c.args.place.log + 1))
+    omega (
+      arith,
+      number_below c.args.logs.now c.args.starts.now c.args.place c.requires.starts c.requires.place,
+      c.type_inv.starts (c.args.place.log + 1),
+    )
 
 pub overflow_add-starts : goal.overflow_add-starts
 overflow_add-starts c =
-    omega (arith, number_below c.args.logs.now c.args.starts.now c.args.place c.requires.starts c.requires.place,
-    c.type_inv.starts (c.args.place.log + 1))
+    omega (
+      arith,
+      number_below c.args.logs.now c.args.starts.now c.args.place c.requires.starts c.requires.place,
+      c.type_inv.starts (c.args.place.log + 1),
+    )
 
 pub returns-clause-places : goal.returns-clause-places
 returns-clause-places c =
