@@ -1,4 +1,5 @@
 pub mod Places
+pub mod Numbers
 pub mod Taken
 pub mod Fronts
 pub mod MergedLines

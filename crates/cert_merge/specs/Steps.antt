@@ -1,3 +1,4 @@
 pub mod Taking
 pub mod Marking
 pub mod Ordered
+pub mod Numbered

@@ -15,7 +15,8 @@ use std::alloc::Global;
 /// formula's clauses. An import gives no line; a hint to it becomes the id of the first unit of its literal. Each
 /// import has to have a unit of its literal before it in that order, in whichever log.
 ///
-/// Without memory for it there is no proof.
+/// Without memory for it there is no proof. `NoMemory` also stands for numbers that have no place: where the logs have 2^32
+/// entries or more in all, or the formula's clauses and the lines are so many that an id would reach 2^32.
 pub fn merge(alloc: Global, formula: &Formula, logs: &[Log]) -> Result<Proof, NoMemory>
     requires formulas { AreOf formula.now logs.now }
     requires imports { AreImportsShown logs.now }

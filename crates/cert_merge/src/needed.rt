@@ -8,6 +8,7 @@ ghost use Rattle.cert_merge.specs.Trimming.{HasUnits, have_empty, AreNeeded, IsT
 ghost use Rattle.cert_merge.specs.MergedNeeds.{HaveUnitEntries, HasEmptyEntry, IsMergedAndTrimmed};
 ghost use Rattle.cert_merge.specs.Steps.Taking.{id_in, listed_id, AreAllTaken};
 ghost use Rattle.cert_merge.specs.Steps.Marking.{AreRoots, AreIdsWithin};
+ghost use Rattle.cert_merge.specs.Steps.Numbered.{places_of, AreStarts};
 ghost use Rattle.cert_merge.specs.Steps.Ordered.{IsOrdered, lines_of};
 
 use crate::marks::{mark_hints, new_ids};
@@ -26,7 +27,8 @@ use std::alloc::Global;
 ///
 /// Each literal has to have an entry that adds just it, and each import a unit of its literal before it.
 ///
-/// Without memory for it there is no proof.
+/// Without memory for it there is no proof. `NoMemory` also stands for numbers that have no place: where the logs have 2^32
+/// entries or more in all, or an id of the merged proof, whether its line is kept or goes, would reach 2^32.
 pub fn merge_needed(
     alloc: Global,
     formula: &Formula,
@@ -55,23 +57,17 @@ impl MergedOrder {
         logs: &[Log],
         keep: &[Lit],
     ) -> Result<Proof, NoMemory>
-        requires ordered { IsOrdered formula.now logs.now self.now.ids.items self.now.places }
+        requires starts { AreStarts logs.now self.now.starts.items }
+        requires ordered { IsOrdered formula.now logs.now self.now.ids.items (places_of logs.now self.now.numbers.items) }
         requires keep { HaveUnitEntries logs.now keep.now }
         ensures { IfOk result (λ kept. IsTrimmed formula.now
-            (lines_of formula.now logs.now self.now.ids.items self.now.places) keep.now kept) }
+            (lines_of formula.now logs.now self.now.ids.items (places_of logs.now self.now.numbers.items)) keep.now kept) }
     {
         let marks = self.needed(alloc, formula, logs, keep)?;
         let ids = new_ids(alloc, formula.clauses().len() as u64, &marks)?;
         let mut lines = Vec::new(alloc);
-        for k in 0..self.places.len() {
-            self.push_if(
-                marks[k],
-                self.places.get(k),
-                formula,
-                logs,
-                &ids,
-                &mut lines,
-            )?;
+        for k in 0..self.numbers.len() {
+            self.push_if(marks[k], self.place_at(k), formula, logs, &ids, &mut lines)?;
         }
         Ok(Proof { lines })
     }
@@ -111,19 +107,20 @@ impl MergedOrder {
         logs: &[Log],
         keep: &[Lit],
     ) -> Result<Vec<bool>, NoMemory>
-        requires ordered { IsOrdered formula.now logs.now self.now.ids.items self.now.places }
+        requires starts { AreStarts logs.now self.now.starts.items }
+        requires ordered { IsOrdered formula.now logs.now self.now.ids.items (places_of logs.now self.now.numbers.items) }
         requires keep { HaveUnitEntries logs.now keep.now }
         ensures { IfOk result (λ marks. AreNeeded formula.now
-            (lines_of formula.now logs.now self.now.ids.items self.now.places) keep.now marks.items) }
+            (lines_of formula.now logs.now self.now.ids.items (places_of logs.now self.now.numbers.items)) keep.now marks.items) }
     {
         let mut marks = self.roots(alloc, formula, logs, keep)?;
         let inputs = formula.clauses().len() as u64;
         let mut hints = Vec::new(alloc);
-        let mut left = self.places.len();
+        let mut left = self.numbers.len();
         while left > 0 {
             left -= 1;
             if marks[left] {
-                self.read_hints(formula, logs, self.places.get(left), &mut hints)?;
+                self.read_hints(formula, logs, self.place_at(left), &mut hints)?;
                 mark_hints(&mut marks, inputs, &hints);
             }
         }
@@ -138,16 +135,17 @@ impl MergedOrder {
         logs: &[Log],
         keep: &[Lit],
     ) -> Result<Vec<bool>, NoMemory>
-        requires ordered { IsOrdered formula.now logs.now self.now.ids.items self.now.places }
+        requires starts { AreStarts logs.now self.now.starts.items }
+        requires ordered { IsOrdered formula.now logs.now self.now.ids.items (places_of logs.now self.now.numbers.items) }
         requires keep { HaveUnitEntries logs.now keep.now }
         ensures { IfOk result (λ marks. AreRoots keep.now
-            (lines_of formula.now logs.now self.now.ids.items self.now.places) marks.items) }
+            (lines_of formula.now logs.now self.now.ids.items (places_of logs.now self.now.numbers.items)) marks.items) }
     {
         let mut wanted = Wanted::new(alloc, formula, keep)?;
-        let mut marks = Vec::with_capacity(alloc, self.places.len())?;
+        let mut marks = Vec::with_capacity(alloc, self.numbers.len())?;
         let mut lits = Vec::new(alloc);
-        for k in 0..self.places.len() {
-            let place = self.places.get(k);
+        for k in 0..self.numbers.len() {
+            let place = self.place_at(k);
             lits.clear();
             logs[place.log].append_lits(place.entry, &mut lits)?;
             marks.push(wanted.take(&lits))?;

@@ -1,12 +1,14 @@
-ghost use Rattle.std.specs.Prelude.{◌≡◌, ℕ, ◌+◌, ◌<◌, ◌≤◌, ◌*◌, List, [], ◌∷◌, ◌++◌, length, map, not, All, IfOk, OnOk, slice_index, IsTrue, Some, MatchOption};
+ghost use Rattle.std.specs.Prelude.{◌≡◌, ℕ, ◌+◌, ◌<◌, ◌≤◌, ◌*◌, List, [], ◌∷◌, ◌++◌, length, map, not, All, IfOk, OnOk, slice_index, slice_index_or, IsTrue, Some, MatchOption};
 ghost use Rattle.cnf_core.specs.Literals.{code_of};
+ghost use Rattle.lrat_log.specs.Entries.{Recorded};
 ghost use Rattle.lrat_log.specs.Kept.{IsLog};
 ghost use Rattle.lrat_log.specs.declared.kind.Kind.TheVariants.{Unit as UnitKind};
 ghost use Rattle.cert_merge.specs.Merging.{entry_in, IsPlace, IsImport, GivesLine, IsMergedOrder, AreIds, merged_id, line_of, AreImportsShown, AreOf};
+ghost use Rattle.cert_merge.specs.Steps.Numbered.{places_of, AreStarts};
 ghost use Rattle.cert_merge.specs.Steps.Taking.{ids_at, id_in, with_id, IsLeft, IsTaking, IsNext, IsFront, IsLeastClock, IsAllTaken, AreAllTaken, IsPushed, noted, lesser_of};
 
 use crate::ids::{EntryIds, renumber};
-use crate::place::{Place, Places};
+use crate::place::{Place, log_of, starts_of};
 use cnf_core::{Clause, Formula, Lit, NoMemory};
 use lrat_lines::{Ids, Line, Proof};
 use lrat_log::{Kind, Log};
@@ -15,8 +17,10 @@ use std::alloc::Global;
 /// The merged order of several logs, and the ids of their entries in it.
 #[derive(Drop)]
 pub struct MergedOrder {
-    /// The entries that give lines, in order.
-    pub places: Places,
+    /// How many entries stand before each log.
+    pub starts: Vec<u32>,
+    /// The entries that give lines, in order, by their numbers among those of all logs.
+    pub numbers: Vec<u32>,
     /// The ids of each log's entries.
     pub ids: Vec<EntryIds>,
 }
@@ -24,7 +28,8 @@ pub struct MergedOrder {
 /// What is taken of the logs so far.
 #[derive(Drop)]
 struct Merger {
-    places: Places,
+    /// The entries that give lines so far, in order, by their numbers among those of all logs.
+    numbers: Vec<u32>,
     ids: Vec<EntryIds>,
     /// For each literal, by its packed form, the id of its first unit, or 0.
     units: Vec<u64>,
@@ -35,35 +40,55 @@ impl MergedOrder {
     pub fn of(alloc: Global, formula: &Formula, logs: &[Log]) -> Result<MergedOrder, NoMemory>
         requires formulas { AreOf formula.now logs.now }
         requires imports { AreImportsShown logs.now }
-        ensures order { IfOk result (λ m. IsMergedOrder logs.now m.places) }
-        ensures ids { IfOk result (λ m. AreIds formula.now logs.now m.places (id_in m.ids.items)) }
+        ensures order { IfOk result (λ m. IsMergedOrder logs.now (places_of logs.now m.numbers.items)) }
+        ensures ids { IfOk result (λ m. AreIds formula.now logs.now (places_of logs.now m.numbers.items) (id_in m.ids.items)) }
         ensures lists { IfOk result (λ m. AreAllTaken logs.now m.ids.items) }
+        ensures starts { IfOk result (λ m. AreStarts logs.now m.starts.items) }
         ensures logs { OnOk result (All IsLog logs.now) }
     {
+        let starts = starts_of(alloc, logs)?;
         let mut merger = Merger::new(alloc, formula, logs)?;
         let mut next = next_clock(&merger.ids, logs);
         while let Some(clock) = next {
-            merger.take_clock(formula, logs, clock)?;
+            merger.take_clock(formula, logs, &starts, clock)?;
             next = next_clock(&merger.ids, logs);
         }
         Ok(MergedOrder {
-            places: merger.places,
+            starts,
+            numbers: merger.numbers,
             ids: merger.ids,
         })
     }
 
+    /// The place at an index of the order.
+    pub fn place_at(&self, k: usize) -> Place
+        requires within { k < length self.now.numbers.items }
+        requires some { 0 < length self.now.starts.items }
+        requires first { slice_index self.now.starts.items 0 ≡ 0 }
+        ensures { (logs : List Recorded) → AreStarts logs self.now.starts.items
+            → result ≡ slice_index_or (places_of logs self.now.numbers.items) k result }
+    {
+        let number = self.numbers[k];
+        let log = log_of(&self.starts, number);
+        Place {
+            log,
+            entry: u64::from(number - self.starts[log]),
+        }
+    }
+
     /// The lines of all entries that give one.
     pub fn proof(&self, alloc: Global, formula: &Formula, logs: &[Log]) -> Result<Proof, NoMemory>
-        requires places { All (IsPlace logs.now) self.now.places }
+        requires starts { AreStarts logs.now self.now.starts.items }
+        requires places { All (IsPlace logs.now) (places_of logs.now self.now.numbers.items) }
         requires formulas { AreOf formula.now logs.now }
         requires logs { All IsLog logs.now }
         requires lists { AreAllTaken logs.now self.now.ids.items }
         ensures { IfOk result (λ proof. proof
-            ≡ map (line_of formula.now logs.now (id_in self.now.ids.items)) self.now.places) }
+            ≡ map (line_of formula.now logs.now (id_in self.now.ids.items)) (places_of logs.now self.now.numbers.items)) }
     {
-        let mut lines = Vec::with_capacity(alloc, self.places.len())?;
-        for k in 0..self.places.len() {
-            lines.push(self.line(alloc, formula, logs, self.places.get(k))?)?;
+        let mut lines = Vec::with_capacity(alloc, self.numbers.len())?;
+        for k in 0..self.numbers.len() {
+            lines.push(self.line(alloc, formula, logs, self.place_at(k))?)?;
         }
         Ok(Proof { lines })
     }
@@ -121,7 +146,7 @@ impl Merger {
     /// Nothing is taken yet.
     fn new(alloc: Global, formula: &Formula, logs: &[Log]) -> Result<Merger, NoMemory>
         requires { AreOf formula.now logs.now }
-        ensures { IfOk result (λ m. IsTaking formula.now logs.now m.ids.items m.units.items m.places) }
+        ensures { IfOk result (λ m. IsTaking formula.now logs.now m.ids.items m.units.items (places_of logs.now m.numbers.items)) }
     {
         let mut ids = Vec::new(alloc);
         let mut room = 0u64;
@@ -131,23 +156,30 @@ impl Merger {
             room = room.saturating_add(entries);
         }
         Ok(Merger {
-            places: Places::with_capacity(alloc, room as usize)?,
+            numbers: Vec::with_capacity(alloc, room as usize)?,
             ids,
             units: vec![in alloc; 0u64; 2 * formula.vars() as usize + 2]?,
         })
     }
 
     /// Takes all entries of this clock, the least that is left.
-    fn take_clock(&mut self, formula: &Formula, logs: &[Log], clock: u32) -> Result<(), NoMemory>
-        requires taking { IsTaking formula.now logs.now self.old.ids.items self.old.units.items self.old.places }
+    fn take_clock(
+        &mut self,
+        formula: &Formula,
+        logs: &[Log],
+        starts: &[u32],
+        clock: u32,
+    ) -> Result<(), NoMemory>
+        requires starts { AreStarts logs.now starts.now }
+        requires taking { IsTaking formula.now logs.now self.old.ids.items self.old.units.items (places_of logs.now self.old.numbers.items) }
         requires imports { AreImportsShown logs.now }
         requires front { IsFront logs.now self.old.ids.items clock 0 }
         ensures taking { OnOk result
-            (IsTaking formula.now logs.now self.new.ids.items self.new.units.items self.new.places) }
+            (IsTaking formula.now logs.now self.new.ids.items self.new.units.items (places_of logs.now self.new.numbers.items)) }
         ensures front { OnOk result (IsFront logs.now self.new.ids.items clock (length logs.now)) }
     {
         for g in 0..logs.len() {
-            self.take_run(formula, logs, g, clock)?;
+            self.take_run(formula, logs, starts, g, clock)?;
         }
         Ok(())
     }
@@ -157,22 +189,24 @@ impl Merger {
         &mut self,
         formula: &Formula,
         logs: &[Log],
+        starts: &[u32],
         g: usize,
         clock: u32,
     ) -> Result<(), NoMemory>
+        requires starts { AreStarts logs.now starts.now }
         requires log { g < length logs.now }
-        requires taking { IsTaking formula.now logs.now self.old.ids.items self.old.units.items self.old.places }
+        requires taking { IsTaking formula.now logs.now self.old.ids.items self.old.units.items (places_of logs.now self.old.numbers.items) }
         requires imports { AreImportsShown logs.now }
         requires front { IsFront logs.now self.old.ids.items clock g }
         ensures taking { OnOk result
-            (IsTaking formula.now logs.now self.new.ids.items self.new.units.items self.new.places) }
+            (IsTaking formula.now logs.now self.new.ids.items self.new.units.items (places_of logs.now self.new.numbers.items)) }
         ensures front { OnOk result (IsFront logs.now self.new.ids.items clock (g + 1)) }
     {
         for entry in self.taken_of(g)..logs[g].len() {
             if logs[g].clock_of(entry) != clock {
                 return Ok(());
             }
-            self.take(formula, logs, Place { log: g, entry })?;
+            self.take(formula, logs, starts, Place { log: g, entry })?;
         }
         Ok(())
     }
@@ -186,29 +220,38 @@ impl Merger {
     }
 
     /// Takes an entry.
-    fn take(&mut self, formula: &Formula, logs: &[Log], place: Place) -> Result<(), NoMemory>
-        requires taking { IsTaking formula.now logs.now self.old.ids.items self.old.units.items self.old.places }
+    fn take(
+        &mut self,
+        formula: &Formula,
+        logs: &[Log],
+        starts: &[u32],
+        place: Place,
+    ) -> Result<(), NoMemory>
+        requires starts { AreStarts logs.now starts.now }
+        requires taking { IsTaking formula.now logs.now self.old.ids.items self.old.units.items (places_of logs.now self.old.numbers.items) }
         requires imports { AreImportsShown logs.now }
         requires next { IsNext logs.now self.old.ids.items place }
         ensures taking { OnOk result
-            (IsTaking formula.now logs.now self.new.ids.items self.new.units.items self.new.places) }
+            (IsTaking formula.now logs.now self.new.ids.items self.new.units.items (places_of logs.now self.new.numbers.items)) }
         ensures ids { OnOk result (IsPushed self.old.ids.items self.new.ids.items place) }
     {
         match logs[place.log].kind(place.entry) {
             Kind::Import => self.take_import(formula, logs, place),
-            Kind::Unit => self.take_unit(formula, logs, place),
-            Kind::Learnt | Kind::Core | Kind::Empty => self.take_clause(formula, logs, place),
+            Kind::Unit => self.take_unit(formula, logs, starts, place),
+            Kind::Learnt | Kind::Core | Kind::Empty => self.take_clause(
+                formula, logs, starts, place,
+            ),
         }
     }
 
     /// Takes an import: it has the id of the first unit of its literal.
     fn take_import(&mut self, formula: &Formula, logs: &[Log], place: Place) -> Result<(), NoMemory>
-        requires taking { IsTaking formula.now logs.now self.old.ids.items self.old.units.items self.old.places }
+        requires taking { IsTaking formula.now logs.now self.old.ids.items self.old.units.items (places_of logs.now self.old.numbers.items) }
         requires imports { AreImportsShown logs.now }
         requires next { IsNext logs.now self.old.ids.items place }
         requires kind { IsImport logs.now place }
         ensures taking { OnOk result
-            (IsTaking formula.now logs.now self.new.ids.items self.new.units.items self.new.places) }
+            (IsTaking formula.now logs.now self.new.ids.items self.new.units.items (places_of logs.now self.new.numbers.items)) }
         ensures ids { OnOk result (IsPushed self.old.ids.items self.new.ids.items place) }
     {
         let lit = logs[place.log].lit(place.entry, 0);
@@ -217,43 +260,66 @@ impl Merger {
     }
 
     /// Takes a unit.
-    fn take_unit(&mut self, formula: &Formula, logs: &[Log], place: Place) -> Result<(), NoMemory>
-        requires taking { IsTaking formula.now logs.now self.old.ids.items self.old.units.items self.old.places }
+    fn take_unit(
+        &mut self,
+        formula: &Formula,
+        logs: &[Log],
+        starts: &[u32],
+        place: Place,
+    ) -> Result<(), NoMemory>
+        requires starts { AreStarts logs.now starts.now }
+        requires taking { IsTaking formula.now logs.now self.old.ids.items self.old.units.items (places_of logs.now self.old.numbers.items) }
         requires next { IsNext logs.now self.old.ids.items place }
         requires kind { (entry_in logs.now place).kind ≡ UnitKind }
         ensures taking { OnOk result
-            (IsTaking formula.now logs.now self.new.ids.items self.new.units.items self.new.places) }
+            (IsTaking formula.now logs.now self.new.ids.items self.new.units.items (places_of logs.now self.new.numbers.items)) }
         ensures ids { OnOk result (IsPushed self.old.ids.items self.new.ids.items place) }
     {
         let lit = logs[place.log].lit(place.entry, 0);
-        let id = (formula.clauses().len() + 1 + self.places.len()) as u64;
-        self.push_line(place, id)?;
+        let id = (formula.clauses().len() + 1 + self.numbers.len()) as u64;
+        self.push_line(logs, starts, place, id)?;
         self.note_unit(lit, id);
         Ok(())
     }
 
     /// Takes a clause that is neither a unit's nor an import's.
-    fn take_clause(&mut self, formula: &Formula, logs: &[Log], place: Place) -> Result<(), NoMemory>
-        requires taking { IsTaking formula.now logs.now self.old.ids.items self.old.units.items self.old.places }
+    fn take_clause(
+        &mut self,
+        formula: &Formula,
+        logs: &[Log],
+        starts: &[u32],
+        place: Place,
+    ) -> Result<(), NoMemory>
+        requires starts { AreStarts logs.now starts.now }
+        requires taking { IsTaking formula.now logs.now self.old.ids.items self.old.units.items (places_of logs.now self.old.numbers.items) }
         requires next { IsNext logs.now self.old.ids.items place }
         requires line { GivesLine logs.now place }
         requires kind { (entry_in logs.now place).kind ≡ UnitKind → ⊥ }
         ensures taking { OnOk result
-            (IsTaking formula.now logs.now self.new.ids.items self.new.units.items self.new.places) }
+            (IsTaking formula.now logs.now self.new.ids.items self.new.units.items (places_of logs.now self.new.numbers.items)) }
         ensures ids { OnOk result (IsPushed self.old.ids.items self.new.ids.items place) }
     {
-        let id = (formula.clauses().len() + 1 + self.places.len()) as u64;
-        self.push_line(place, id)
+        let id = (formula.clauses().len() + 1 + self.numbers.len()) as u64;
+        self.push_line(logs, starts, place, id)
     }
 
     /// The place is next in the order, under this id.
-    fn push_line(&mut self, place: Place, id: u64) -> Result<(), NoMemory>
-        requires { place.log < length self.old.ids.items }
+    fn push_line(
+        &mut self,
+        logs: &[Log],
+        starts: &[u32],
+        place: Place,
+        id: u64,
+    ) -> Result<(), NoMemory>
+        requires starts { AreStarts logs.now starts.now }
+        requires place { IsPlace logs.now place }
+        requires list { place.log < length self.old.ids.items }
         ensures ids { OnOk result (self.new.ids.items ≡ with_id self.old.ids.items place.log id) }
-        ensures places { OnOk result (self.new.places ≡ self.old.places ++ place ∷ []) }
+        ensures places { OnOk result
+            (places_of logs.now self.new.numbers.items ≡ places_of logs.now self.old.numbers.items ++ place ∷ []) }
         ensures units { self.new.units.items ≡ self.old.units.items }
     {
-        self.places.push(place)?;
+        self.numbers.push(starts[place.log] + place.entry as u32)?;
         self.push_id(place, id)
     }
 
@@ -261,7 +327,7 @@ impl Merger {
     fn push_id(&mut self, place: Place, id: u64) -> Result<(), NoMemory>
         requires { place.log < length self.old.ids.items }
         ensures ids { OnOk result (self.new.ids.items ≡ with_id self.old.ids.items place.log id) }
-        ensures places { self.new.places ≡ self.old.places }
+        ensures numbers { self.new.numbers.items ≡ self.old.numbers.items }
         ensures units { self.new.units.items ≡ self.old.units.items }
     {
         self.ids[place.log].push(id)
@@ -271,7 +337,7 @@ impl Merger {
     fn note_unit(&mut self, lit: Lit, id: u64)
         requires { code_of lit < length self.old.units.items }
         ensures ids { self.new.ids.items ≡ self.old.ids.items }
-        ensures places { self.new.places ≡ self.old.places }
+        ensures numbers { self.new.numbers.items ≡ self.old.numbers.items }
         ensures units { self.new.units.items ≡ noted self.old.units.items lit id }
     {
         let code = lit.code() as usize;

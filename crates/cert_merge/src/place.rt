@@ -1,9 +1,11 @@
-ghost use Rattle.std.specs.Prelude.{◌≡◌, ◌<◌, ◌^◌, [], ◌∷◌, ◌++◌, length, slice_index_or, IfOk, OnOk};
+ghost use Rattle.std.specs.Prelude.{◌≡◌, ◌+◌, ◌<◌, ◌≤◌, length, All, IfOk, slice_index, slice_index_or};
+ghost use Rattle.lrat_log.specs.Kept.{IsLog};
+ghost use Rattle.cert_merge.specs.Steps.Numbered.{AreStarts};
 
 use crate::ids::narrow;
 use cnf_core::NoMemory;
+use lrat_log::Log;
 use std::alloc::Global;
-use std::marker::Model;
 
 /// The place of an entry: its log among the logs, and its place in the log, both from 0.
 #[derive(Clone, Copy, Debug, PartialEq, Eq)]
@@ -12,89 +14,38 @@ pub struct Place {
     pub entry: u64,
 }
 
-/// A place in eight bytes.
-#[derive(Drop)]
-struct NarrowPlace {
-    log: u32,
-    entry: u32,
-}
-
-impl Model for NarrowPlace {
-    ghost use Rattle.cert_merge.specs.declared.place.Place.{Place};
-
-    ghost Value = { Place };
-
-    ghost view = { λ p. record { log = p.log; entry = p.entry } };
-}
-
-impl NarrowPlace {
-    /// The place, where it fits.
-    fn of(place: Place) -> Result<NarrowPlace, NoMemory>
-        ensures { IfOk result (λ p. p ≡ place) }
-    {
-        Ok(NarrowPlace {
-            log: narrow(place.log as u64)?,
-            entry: narrow(place.entry)?,
-        })
+/// How many entries stand before each log where the logs follow one another, and how many there are in all. There is no
+/// place for 2^32 entries or more.
+pub fn starts_of(alloc: Global, logs: &[Log]) -> Result<Vec<u32>, NoMemory>
+    ensures starts { IfOk result (λ starts. AreStarts logs.now starts.items) }
+    ensures logs { IfOk result (λ starts. All IsLog logs.now) }
+{
+    let mut starts = vec![in alloc; 0u32]?;
+    let mut next = 0u32;
+    for log in logs {
+        next = next.checked_add(narrow(log.len())?).ok_or(NoMemory)?;
+        starts.push(next)?;
     }
+    Ok(starts)
+}
 
-    /// The place.
-    fn place(&self) -> Place
-        ensures { result ≡ self.now }
-    {
-        Place {
-            log: self.log as usize,
-            entry: u64::from(self.entry),
+/// The log among whose entries the number is, by what stands before each log.
+pub fn log_of(starts: &[u32], number: u32) -> usize
+    requires some { 0 < length starts.now }
+    requires first { slice_index starts.now 0 ≡ 0 }
+    ensures within { result < length starts.now }
+    ensures from { slice_index starts.now result ≤ number }
+    ensures to { result + 1 < length starts.now → number < slice_index starts.now (result + 1) }
+{
+    let mut log = 0usize;
+    let mut end = starts.len();
+    while end - log > 1 {
+        let middle = log + (end - log) / 2;
+        if starts[middle] <= number {
+            log = middle;
+        } else {
+            end = middle;
         }
     }
-}
-
-/// Places in order, in eight bytes each.
-#[derive(Drop)]
-pub struct Places {
-    places: Vec<NarrowPlace>,
-}
-
-impl Model for Places {
-    ghost use Rattle.std.specs.Prelude.{List};
-    ghost use Rattle.cert_merge.specs.declared.place.Place.{Place};
-
-    ghost Value = { List Place };
-
-    ghost view = { λ p. p.places.items };
-}
-
-impl Places {
-    /// None, with room for so many.
-    pub fn with_capacity(alloc: Global, room: usize) -> Result<Places, NoMemory>
-        ensures { IfOk result (λ places. places ≡ []) }
-    {
-        Ok(Places {
-            places: Vec::with_capacity(alloc, room)?,
-        })
-    }
-
-    /// How many there are.
-    pub fn len(&self) -> usize
-        ensures value { result ≡ length self.now }
-        ensures bound { result < 2 ^ 63 }
-    {
-        self.places.len()
-    }
-
-    /// The place at an index.
-    pub fn get(&self, k: usize) -> Place
-        requires { k < length self.now }
-        ensures { result ≡ slice_index_or self.now k result }
-    {
-        self.places[k].place()
-    }
-
-    /// One place more.
-    pub fn push(&mut self, place: Place) -> Result<(), NoMemory>
-        ensures { OnOk result (self.new ≡ self.old ++ place ∷ []) }
-    {
-        self.places.push(NarrowPlace::of(place)?)?;
-        Ok(())
-    }
+    log
 }

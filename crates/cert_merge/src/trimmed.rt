@@ -19,7 +19,8 @@ use std::alloc::Global;
 /// with them each line that is a hint of a kept one; no other is. The ids follow anew on those of the formula's
 /// clauses. Each literal has to have a line that adds just it. Lines are moved, not copied.
 ///
-/// Without memory for it there is no proof.
+/// Without memory for it there is no proof. `NoMemory` also stands for numbers that have no place: where the formula's
+/// clauses and the lines that are kept are so many that the next id would reach 2^32.
 pub fn trim(alloc: Global, formula: &Formula, proof: Proof, keep: &[Lit]) -> Result<Proof, NoMemory>
     requires tidy { IsTidy formula.now proof }
     requires accepted { Proves formula.now proof }

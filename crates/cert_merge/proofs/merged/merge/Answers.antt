@@ -7,14 +7,15 @@ use Rattle.cert_merge.specs.Merging.{line_of, IsMerged, HasLines, ReachesAll}
 use Rattle.cert_merge.specs.Steps.Taking.{id_in}
 use Rattle.cert_merge.proofs.Places.{if_ok}
 use Rattle.cert_merge.proofs.MergedLines.{merged_lines, merged_has_lines, merged_reaches}
+use Rattle.cert_merge.specs.Steps.Numbered.{places_of}
 use Rattle.cert_merge.proofs.merged.merge.Goals as goal
 
-abbrev IsIt : goal.After-drop-order-2 → List Line → Type 0
-IsIt c proof = proof ≡ map (line_of c.args.formula.now c.args.logs.now (id_in c.in_ok-order.order.ids.items)) c.in_ok-order.order.places
+abbrev IsIt : goal.After-drop-order-3 → List Line → Type 0
+IsIt c proof = proof ≡ map (line_of c.args.formula.now c.args.logs.now (id_in c.in_ok-order.order.ids.items)) (places_of c.args.logs.now c.in_ok-order.order.numbers.items)
 
-merged : (c : goal.After-drop-order-2) (proof : List Line) → IsIt c proof → IsMerged c.args.formula.now c.args.logs.now proof
+merged : (c : goal.After-drop-order-3) (proof : List Line) → IsIt c proof → IsMerged c.args.formula.now c.args.logs.now proof
 merged c proof is = record {
-  order = c.in_ok-order.order.places;
+  order = (places_of c.args.logs.now c.in_ok-order.order.numbers.items);
   id_of = id_in c.in_ok-order.order.ids.items;
   is_order = c.in_ok-order.ensures.order;
   are_ids = c.in_ok-order.ensures.ids;

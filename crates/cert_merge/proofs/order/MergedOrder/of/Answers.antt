@@ -2,6 +2,7 @@ use Rattle.std.proofs.Common.{ℕ, Option, subst}
 use Rattle.std.specs.Prelude.{MatchOption}
 use Rattle.cert_merge.specs.Steps.Taking.{IsAllTaken, IsLeastClock}
 use Rattle.cert_merge.proofs.Taken.{all_lists}
+use Rattle.cert_merge.specs.Steps.Numbered.{places_of}
 use Rattle.cert_merge.proofs.order.MergedOrder.of.Goals as goal
 
 pub returns-clause-lists : goal.returns-clause-lists
@@ -12,5 +13,5 @@ returns-clause-lists c =
     record {
       lists = c.loop-next.invariant.taking.lists;
       entries = all_lists c.args.formula.now c.args.logs.now c.loop-next.merger.ids.items c.loop-next.merger.units.items
-          c.loop-next.merger.places c.loop-next.invariant.taking done;
+          (places_of c.args.logs.now c.loop-next.merger.numbers.items) c.loop-next.invariant.taking done;
     }

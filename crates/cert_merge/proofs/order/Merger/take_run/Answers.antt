@@ -4,6 +4,7 @@ use Rattle.cert_merge.specs.declared.place.Place.{Place}
 use Rattle.cert_merge.specs.Merging.{log_at}
 use Rattle.cert_merge.proofs.Places.{log_read}
 use Rattle.cert_merge.proofs.Fronts.{front_over, front_next, front_stays, count_rises}
+use Rattle.cert_merge.specs.Steps.Numbered.{places_of}
 use Rattle.cert_merge.proofs.order.Merger.take_run.Goals as goal
 
 abbrev here : goal.Then-clock_of-clock → Place
@@ -11,7 +12,7 @@ here c = record { log = c.args.g; entry = c.loop-entry.entry }
 
 pub returns-then-clock_of-clock-clause-front : goal.returns-then-clock_of-clock-clause-front
 returns-then-clock_of-clock-clause-front c =
-    front_over c.args.formula.now c.args.logs.now c.loop-entry.self.ids.items c.loop-entry.self.units.items c.loop-entry.self.places
+    front_over c.args.formula.now c.args.logs.now c.loop-entry.self.ids.items c.loop-entry.self.units.items (places_of c.args.logs.now c.loop-entry.self.numbers.items)
     c.args.clock (here c) c.loop-entry.invariant.taking c.loop-entry.invariant.front c.loop-entry.invariant.head
     (λ place same. c.if-clock_of-clock.true (c.clock_of.ensures
     ∙ ap (λ (L : Recorded). (entry_at L c.loop-entry.entry).clock)
@@ -33,12 +34,12 @@ loop-entry-preserved c =
     record {
       taking = c.in_ok-take.ensures.taking;
       front = front_stays c.args.formula.now c.args.logs.now c.loop-entry.self.ids.items c.take.new.self.ids.items c.loop-entry.self.units.items
-          c.loop-entry.self.places c.args.clock c.args.g p c.loop-entry.invariant.taking is_next c.in_ok-take.ensures.ids
+          (places_of c.args.logs.now c.loop-entry.self.numbers.items) c.args.clock c.args.g p c.loop-entry.invariant.taking is_next c.in_ok-take.ensures.ids
           c.loop-entry.invariant.front;
       head = omega (
         arith,
         count_rises c.args.formula.now c.args.logs.now c.loop-entry.self.ids.items c.take.new.self.ids.items
-            c.loop-entry.self.units.items c.loop-entry.self.places p c.loop-entry.invariant.taking is_next c.in_ok-take.ensures.ids,
+            c.loop-entry.self.units.items (places_of c.args.logs.now c.loop-entry.self.numbers.items) p c.loop-entry.invariant.taking is_next c.in_ok-take.ensures.ids,
         c.loop-entry.invariant.head,
       );
     }
