@@ -4,7 +4,10 @@
 # another solver where YARDSTICK has its command. That one takes the file as its last word, and writes to standard
 # error, somewhere, 'first S' with the seconds of its first query and '(first N' with its conflicts.
 #
-#   [YARDSTICK='COMMAND WORD ..'] bench/solver.sh [FILE ..]
+#   [BUDGET=N] [YARDSTICK='COMMAND WORD ..'] bench/solver.sh [FILE ..]
+#
+# With BUDGET the proved solver learns at most so many clauses. A conflict gets dearer with the clauses that are kept, so
+# what one costs is best compared where the yardstick, by its own words, ends after as many.
 #
 # It runs the program of crates/solver_bench as its last proof built it. The milliseconds are those of the processor,
 # the least of three runs: of the yardstick its own, of MiniSat those of the whole program, and of the proved solver
@@ -14,7 +17,7 @@
 set -eu
 cd "$(dirname "$0")/.."
 
-budget=2000000
+budget=${BUDGET:-2000000}
 program=crates/solver_bench/out/solver_bench
 
 if [ ! -x "$program" ]; then
@@ -70,7 +73,8 @@ shown() {
         'BEGIN { printf "; %s %d conflicts, %d ms, %.1f us each", name, n, ms, 1000 * ms / (n > 0 ? n : 1) }'
 }
 
-for words in "150 640 1" "200 852 1" "200 840 5" "225 958 3" "250 1065 2" "250 1040 7"; do
+for words in "150 640 1" "200 852 1" "200 840 5" "225 958 3" "250 1065 2" "250 1040 7" \
+    "175 746 8" "200 830 9" "225 930 4" "225 950 6" "250 1040 11" "250 1050 13"; do
     "$program" print $words >"$work/random-${words// /-}.cnf"
 done
 
