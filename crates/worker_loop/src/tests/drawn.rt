@@ -33,9 +33,9 @@ fn holds(formula: &Formula, bits: u32) -> bool {
     })
 }
 
-/// The models of a formula.
+/// What trying every assignment tells of a formula's models.
 #[derive(Clone, Copy)]
-struct Models {
+struct Tried {
     /// One of them.
     first: u32,
     /// The variables that are true in all of them.
@@ -44,33 +44,33 @@ struct Models {
     ever: u32,
 }
 
-fn models(formula: &Formula) -> Option<Models> {
-    let mut models: Option<Models> = None;
+fn try_all(formula: &Formula) -> Option<Tried> {
+    let mut tried: Option<Tried> = None;
     for bits in 0..1 << VARS {
         if holds(formula, bits) {
-            let before = models.unwrap_or(Models {
+            let before = tried.unwrap_or(Tried {
                 first: bits,
                 always: bits,
                 ever: bits,
             });
-            models = Some(Models {
+            tried = Some(Tried {
                 first: before.first,
                 always: before.always & bits,
                 ever: before.ever | bits,
             });
         }
     }
-    models
+    tried
 }
 
 /// The literals that are true in all models, in order.
-fn common(alloc: Global, models: Models) -> Result<Vec<i32>, Fail> {
+fn common(alloc: Global, tried: Tried) -> Result<Vec<i32>, Fail> {
     let mut numbers = Vec::new(alloc);
     for place in 0..VARS {
         let var = place + 1;
-        if value(models.always, var) {
+        if value(tried.always, var) {
             numbers.push(var as i32)?;
-        } else if !value(models.ever, var) {
+        } else if !value(tried.ever, var) {
             numbers.push(-(var as i32))?;
         }
     }
@@ -96,9 +96,9 @@ fn drawn_formulas_are_answered_as_by_trying_every_assignment(rt: HostRuntime) ->
     let mut some = false;
     for pick in 0..60 {
         let formula = draw(alloc, pick)?;
-        if let Some(models) = models(&formula) {
-            let wanted = common(alloc, models)?;
-            let numbers = fixed(alloc, &formula, models.first)?;
+        if let Some(tried) = try_all(&formula) {
+            let wanted = common(alloc, tried)?;
+            let numbers = fixed(alloc, &formula, tried.first)?;
             assert_eq!(rt; numbers.as_slice(), wanted.as_slice());
             some |= !wanted.is_empty();
         }
