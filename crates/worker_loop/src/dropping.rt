@@ -43,10 +43,7 @@ impl Source {
     fn of(place: u32, flip: bool) -> Source
         ensures { result ≡ source_at place flip }
     {
-        Source {
-            model: place,
-            flip,
-        }
+        Source { model: place, flip }
     }
 }
 

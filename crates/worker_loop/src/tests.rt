@@ -191,12 +191,20 @@ fn row(alloc: Global, vars: u32, numbers: &[i32]) -> Result<(Vec<i32>, u64), Fai
 }
 
 #[test]
-fn what_the_solver_answers_is_closed(rt: HostRuntime) -> Result<(), Fail> {
+fn what_units_show_is_fixed(rt: HostRuntime) -> Result<(), Fail> {
     let alloc = rt.alloc();
-    let (fixed, core) = row(alloc, 3, &[1, 0, -1, 2, 0, 2, 3, 0])?;
-    assert_eq!(rt; (fixed.as_slice(), core), ([1, 2].as_slice(), 0));
-    let (fixed, core) = row(alloc, 2, &[1, 2, 0, 1, -2, 0])?;
-    assert_eq!(rt; (fixed.as_slice(), core), ([1].as_slice(), 0));
+    let (chain, core) = row(alloc, 3, &[1, 0, -1, 2, 0, 2, 3, 0])?;
+    assert_eq!(rt; chain.as_slice(), [1, 2].as_slice());
+    assert_eq!(rt; core, 0);
+    let (lead, core) = row(alloc, 2, &[1, 2, 0, 1, -2, 0])?;
+    assert_eq!(rt; lead.as_slice(), [1].as_slice());
+    assert_eq!(rt; core, 0);
+    Ok(())
+}
+
+#[test]
+fn a_core_of_two_that_a_model_splits_is_dropped(rt: HostRuntime) -> Result<(), Fail> {
+    let alloc = rt.alloc();
     let (fixed, core) = row(alloc, 2, &[1, 2, 0])?;
     assert_eq!(rt; (fixed.len(), core), (0, 2));
     Ok(())

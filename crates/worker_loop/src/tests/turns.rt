@@ -1,5 +1,6 @@
 //! Turns over a table that two workers share.
 ghost use Rattle.std.specs.Prelude.{◌≡◌, ◌+◌, ◌^◌, ◌<◌, ◌≤◌, length, IfOk};
+ghost use Rattle.board_core.specs.Boards.{root_view};
 ghost use Rattle.candidate_words.specs.Seats.{Sits};
 ghost use Rattle.worker_loop.specs.Posts.{IsUnused};
 
@@ -20,6 +21,20 @@ const PAIRS: [i32; 24] = [
 /// Variable 1, whatever 2 is.
 const LEAD: [i32; 6] = [1, 2, 0, 1, -2, 0];
 
+/// A second seat at a table where nobody has won anything yet.
+fn split_seat(words: &Words, root: &mut Seat, question: &Question) -> Seat
+    requires sits { Sits words.now root.old }
+    requires root { root.old.view ≡ root_view words.now.about }
+    requires about { words.now.about ≡ question.now }
+    requires unused { IsUnused question.now root.old }
+    ensures first { Sits words.now root.new }
+    ensures second { Sits words.now result }
+    ensures unused { IsUnused question.now root.new }
+    ensures new { IsUnused question.now result }
+{
+    words.split(root)
+}
+
 /// A table with two seats, and what is asked there.
 fn open_two<'f>(
     alloc: Global,
@@ -33,7 +48,7 @@ fn open_two<'f>(
     ensures about { IfOk result (λ opened. opened.0.about ≡ opened.3) }
 {
     let (words, mut root, question) = open(alloc, formula, bits)?;
-    let other = words.split(&mut root);
+    let other = split_seat(&words, &mut root, &question);
     Ok((words, root, other, question))
 }
 
