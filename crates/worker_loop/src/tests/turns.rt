@@ -5,7 +5,7 @@ ghost use Rattle.candidate_words.specs.Seats.{Sits};
 ghost use Rattle.worker_loop.specs.Posts.{IsUnused};
 
 use crate::tests::{ENOUGH, fits, hire, open};
-use crate::{End, NoGate, Question, TurnEnd, Worker};
+use crate::{End, Findings, NoGate, Question, TurnEnd, Worker};
 use candidate_words::{Seat, Words};
 use cnf_core::Formula;
 use lrat_log::{Kind, Log};
@@ -83,8 +83,19 @@ fn take_turn(words: &Words, worker: &mut Worker) -> TurnEnd
 }
 
 /// The word of the first group, as it is now.
-fn first_word(words: &Words, seat: &mut Seat) -> u64
-    requires { Sits words.now seat.old }
+fn first_word(words: &Words, seat: &mut Seat, question: &Question) -> u64
+    requires sits { Sits words.now seat.old }
+    requires about { words.now.about ≡ question.now }
+    ensures { Sits words.now seat.new }
+{
+    let vars = question.vars();
+    look_at_first(words, seat, vars)
+}
+
+fn look_at_first(words: &Words, seat: &mut Seat, vars: u32) -> u64
+    requires sits { Sits words.now seat.old }
+    requires vars { vars ≡ words.now.about.formula.vars }
+    requires some { 0 < vars }
     ensures { Sits words.now seat.new }
 {
     words.refresh(seat, 0)
@@ -96,9 +107,9 @@ fn a_turn_drops_at_once_what_no_single_flip_could(rt: HostRuntime) -> Result<(),
     let formula = Formula::of_numbers(alloc, 8, &PAIRS)?;
     let (words, seat, mut other, question) = open_two(alloc, &formula, 0xff)?;
     let mut worker = hire_with_model(alloc, &words, &question, seat)?;
-    let before = first_word(&words, &mut other);
+    let before = first_word(&words, &mut other, &question);
     let going = take_turn(&words, &mut worker);
-    let after = first_word(&words, &mut other);
+    let after = first_word(&words, &mut other, &question);
     let done = take_turn(&words, &mut worker);
     assert_eq!(rt; (before, after), (0xff, 0));
     assert_eq!(rt; (going, done), (TurnEnd::Going, TurnEnd::Done));
@@ -116,15 +127,23 @@ fn imports(alloc: Global, log: &Log) -> Result<Vec<i32>, Fail> {
     Ok(numbers)
 }
 
+/// What a second worker hands in after one turn of the first.
+fn after_one_turn<'f>(
+    alloc: Global,
+    formula: &'f Formula,
+) -> Result<(TurnEnd, Findings<'f>), Fail> {
+    let (words, seat, other, question) = open_two(alloc, formula, 3)?;
+    let mut first = hire(alloc, 0, &question, seat, ENOUGH)?;
+    let second = hire(alloc, 1, &question, other, ENOUGH)?;
+    let going = first.turn(&words);
+    Ok((going, second.run(&words, &NoGate)))
+}
+
 #[test]
 fn the_second_worker_takes_over_what_the_first_one_fixed(rt: HostRuntime) -> Result<(), Fail> {
     let alloc = rt.alloc();
     let formula = Formula::of_numbers(alloc, 2, &LEAD)?;
-    let (words, seat, other, question) = open_two(alloc, &formula, 3)?;
-    let mut first = hire(alloc, 0, &question, seat, ENOUGH)?;
-    let second = hire(alloc, 1, &question, other, ENOUGH)?;
-    let going = first.turn(&words);
-    let findings = second.run(&words, &NoGate);
+    let (going, findings) = after_one_turn(alloc, &formula)?;
     assert_eq!(rt; (going, findings.end), (TurnEnd::Going, End::Done));
     assert_eq!(rt; imports(alloc, &findings.log)?.as_slice(), [1].as_slice());
     assert_eq!(rt; (findings.fixes.len(), findings.drops.len()), (0, 1));
