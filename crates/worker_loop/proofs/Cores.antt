@@ -15,12 +15,13 @@ use Rattle.assumption_solver.specs.Units.{HasUnit, is_unit}
 use Rattle.assumption_solver.specs.Answers.{IsModelFor, HasFalse}
 use Rattle.worker_loop.specs.declared.post.Post.{Post}
 use Rattle.worker_loop.specs.Evidence.{IsRooted}
-use Rattle.worker_loop.specs.Steps.Held.{IsPost}
+use Rattle.worker_loop.specs.Turns.{Goes}
+use Rattle.worker_loop.specs.Steps.Held.{IsPost, state_of}
 use Rattle.worker_loop.specs.Steps.Moves.{IsLoaded, IsOnward, IsOpenPhase, IsClosed, IsDropped}
 use Rattle.worker_loop.specs.Steps.Following.{IsCoreOf}
 use Rattle.worker_loop.proofs.Words.{open_candidate, open_range}
 use Rattle.worker_loop.proofs.Walked.{loaded_words}
-use Rattle.worker_loop.proofs.Going.{opposite}
+use Rattle.worker_loop.proofs.Going.{opposite, goes_by_core}
 
 -- they are candidates, and variables of the formula
 pub shown_core : (p : Post) (core : Literals) → IsPost p → IsLoaded p → All (IsOpenPhase p) core
@@ -103,3 +104,9 @@ phases_onward p q core onward were_open =
 pub has_model : (p : Post) → IsPost p → models p.solver.log.formula ≡ [] → ⊥
 has_model p post none =
     no_model p.question.now.formula p.question.now.phases (subst (λ (F : Cnf). models F ≡ []) post.told.log none) post.is_model
+
+-- where all of the core is closed, the turn goes on
+pub goes_all : (p q : Post) (core : Literals) → IsPost p → IsLoaded p → IsOnward p q → IsCoreOf p core → All (λ l. IsClosed q l.var) core → Goes (state_of q)
+goes_all p q core post copied onward is closed =
+    let (one, among) = some_literal core is.some in
+    goes_by_core p q core one copied onward post is among (All-contains (λ (l : Literal). IsClosed q l.var) core one closed among)

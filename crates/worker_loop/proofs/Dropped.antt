@@ -23,10 +23,6 @@ use Rattle.worker_loop.specs.declared.dropping.Source.{Source}
 use Rattle.worker_loop.specs.Evidence.{IsWitness, IsTold, IsImportOf, IsPublished, IsClocked}
 use Rattle.worker_loop.specs.Steps.Dropping.{var_at, witness_of}
 
--- a seat's board was opened for what its view was
-pub same_about : (b : Board) (a : About) (s : Sitter) → Sits b s → IsView a s.view → b.about ≡ a
-same_about b a s sits is = sym sits.view.about ∙ is.about
-
 -- a witness shows its variable opposed
 opposed_by : (a : About) (s : Store) (w : Witness) → IsWitness a s w → Opposed a w.var
 unfolding Opposed

@@ -32,6 +32,7 @@ use Rattle.candidate_words.specs.Seats.{Sitter, HasFixed}
 use Rattle.model_store.specs.Stores.{Store}
 use Rattle.model_store.specs.declared.witness.Witness.{Witness}
 use Rattle.assumption_solver.specs.Units.{HasUnit, is_unit}
+use Rattle.worker_loop.proofs.Words.{open_candidate}
 use Rattle.worker_loop.specs.Evidence.{IsRooted, IsTold, IsImportOf, IsPublished, IsClocked}
 
 -- a candidate's group
@@ -345,15 +346,4 @@ pub open_shown : (a : About) (ws : List ℕ) (x : ℕ) → AreWords a ws → IsT
 open_shown a ws zero words is = absurd (true≢false (sym is))
 open_shown a ws (suc c) words is =
     let one : open_at ws (suc c) ≡ 1 = eqb-true (open_at ws (suc c)) 1 is in
-    let size = words.size in
-    ⊎_elim
-    (λ (low : c / 32 < groups a.formula.vars).
-    let place : suc (32 * (c / 32) + c % 32) ≡ suc c = omega arith in
-    let bits = (words.inside (c / 32) low (c % 32) (omega arith)).0 in
-    let same : candidate a.formula (suc (32 * (c / 32) + c % 32)) ≡ candidate a.formula (suc c) = ap (candidate a.formula) place in
-    omega (arith, one, bits, same, candidate-lt a.formula (suc c)))
-    (λ (over : groups a.formula.vars ≤ c / 32).
-    let none : slice_index ws (c / 32) ≡ 0 = get_or_past ws (c / 32) 0 (omega arith) in
-    let bit : bit_at (slice_index ws (c / 32)) (c % 32) ≡ 0 = ap (λ (w : ℕ). bit_at w (c % 32)) none ∙ bit_at-zero (c % 32) in
-    absurd (omega (arith, one, bit)))
-    (cases_lt (c / 32) (groups a.formula.vars))
+    omega (arith, one, open_candidate a ws words (suc c), candidate-lt a.formula (suc c))

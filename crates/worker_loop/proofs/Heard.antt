@@ -1,16 +1,15 @@
 -- Literals that are taken over one after another.
-use Rattle.std.proofs.Common.{◌≡◌, ◌≢◌, ℕ, suc, ◌+◌, ◌-◌, ◌*◌, ◌/◌, ◌%◌, ◌<◌, ◌≤◌, ◌⊎◌, inl, inr, List, get_or, cond, refl, sym, ap, ◌∙◌}
+use Rattle.std.proofs.Common.{◌≡◌, ◌≢◌, ℕ, suc, ◌+◌, ◌-◌, ◌*◌, ◌/◌, ◌%◌, ◌<◌, ◌≤◌, ◌⊎◌, inl, inr, List, get_or, refl, sym, ap, ◌∙◌}
 use Rattle.std.proofs.Common.{subst, ⊎_elim, arith}
 use Rattle.std.specs.Prelude.{slice_index, OnOk, Result, Ok, Err}
 use Rattle.std.specs.Int.{bit_at}
 use Rattle.std.proofs.lemmas.Bool.{cases_eq, cases_lt}
 use Rattle.std.proofs.lemmas.List.{get_or_default}
-use Rattle.std.proofs.lemmas.List.Sums.{sum_by-append}
 use Rattle.std.proofs.lemmas.Nat.Bits.{bit_at-lt, bit_at-zero}
 use Rattle.cnf_core.specs.declared.memory.NoMemory.{NoMemory}
 use Rattle.cnf_core.specs.Formulas.{true_literal}
 use Rattle.board_core.proofs.Ends.{candidate-lt}
-use Rattle.lrat_log.specs.Entries.{Entry, Recorded, is_learnt_entry, learnt_count}
+use Rattle.lrat_log.specs.Entries.{Recorded}
 use Rattle.board_core.specs.Subjects.{About, groups, candidate}
 use Rattle.board_core.specs.Words.{fixed}
 use Rattle.candidate_words.specs.Seats.{Board, Sits}
@@ -18,17 +17,15 @@ use Rattle.assumption_solver.specs.Units.{HasUnit}
 use Rattle.worker_loop.specs.declared.post.Post.{Post}
 use Rattle.worker_loop.specs.Posts.{IsLonger}
 use Rattle.worker_loop.specs.Steps.Held.{IsPost}
-use Rattle.worker_loop.specs.Steps.Moves.{IsOnward, IsAskedTimes, HasListened, HasHeardOne, HasHeardBit, HasHeardBits, HasHeardIn}
-use Rattle.worker_loop.specs.Steps.Moves.{HasHeard, IsLoaded}
+use Rattle.worker_loop.specs.Steps.Moves.{IsHearing, IsAskedTimes, HasListened, HasHeardOne, HasHeardBit, HasHeardBits, HasHeardIn}
+use Rattle.worker_loop.specs.Steps.Moves.{HasHeard, HasTaken, IsLoaded}
 use Rattle.worker_loop.proofs.Queries.{asked_after, asked_same}
+use Rattle.worker_loop.proofs.Turning.{learnt_longer}
 use Rattle.worker_loop.specs.Steps.Dropping.{HasCandidates}
 use Rattle.worker_loop.proofs.Picks.{var_within}
 use Rattle.worker_loop.proofs.Grown.{unit_longer}
-use Rattle.worker_loop.proofs.Onward.{onward_refl, onward_trans}
-
-pub learnt_longer : (L M : Recorded) → IsLonger L M → learnt_count L.entries ≤ learnt_count M.entries
-learnt_longer L M h =
-    omega (arith, ap learnt_count h.entries, sum_by-append (λ (e : Entry). cond (is_learnt_entry e) 1 0) L.entries h.more)
+use Rattle.worker_loop.proofs.Imports.{taken_refl, taken_trans}
+use Rattle.worker_loop.proofs.Onward.{hearing_refl, hearing_trans}
 
 pub asked_trans : (L M N : Recorded) → IsLonger L M → IsLonger M N → IsAskedTimes 0 L M → IsAskedTimes 0 M N → IsAskedTimes 0 L N
 asked_trans L M N one two first second =
@@ -38,7 +35,7 @@ pub listened_refl : (b : Board) (p : Post) → IsPost p → Sits b p.seat → Ha
 listened_refl b p h sits = record {
   post = h;
   sits = sits;
-  onward = onward_refl p;
+  hearing = hearing_refl p;
   models = refl;
   seen = refl;
   asked = asked_same p.solver.log p.solver.log refl;
@@ -48,40 +45,45 @@ pub listened_trans : (b : Board) (p q r : Post) → HasListened b p q → HasLis
 listened_trans b p q r one two = record {
   post = two.post;
   sits = two.sits;
-  onward = onward_trans p q r one.onward two.onward;
+  hearing = hearing_trans p q r one.hearing two.hearing;
   models = two.models ∙ one.models;
   seen = two.seen ∙ one.seen;
-  asked = asked_trans p.solver.log q.solver.log r.solver.log one.onward.log two.onward.log one.asked two.asked;
+  asked = asked_trans p.solver.log q.solver.log r.solver.log one.hearing.log two.hearing.log one.asked two.asked;
 }
 
 -- what was heard stays heard
 pub still_heard : (b : Board) (p q r : Post) (x : ℕ) → HasListened b q r → HasHeardOne p q x → HasHeardOne p r x
 still_heard b p q r x step heard = ⊎_elim
-    (λ (u : HasUnit q.solver.log (true_literal p.question.now.phases x)). inl (unit_longer q.solver.log r.solver.log _ step.onward.log u))
+    (λ (u : HasUnit q.solver.log (true_literal p.question.now.phases x)). inl (unit_longer q.solver.log r.solver.log _ step.hearing.log u))
     (λ (l : slice_index p.seat.view.looks (x - 1) < slice_index q.seat.view.looks (x - 1)). inr
-    (omega (arith, l, step.onward.looks (x - 1))))
+    (omega (arith, l, step.hearing.looks (x - 1))))
     heard
 
 -- what is heard in a later step is heard in both
 pub heard_from : (b : Board) (p q r : Post) (x : ℕ) → HasListened b p q → HasHeardOne q r x → HasHeardOne p r x
 heard_from b p q r x step heard = ⊎_elim
     (λ (u : HasUnit r.solver.log (true_literal q.question.now.phases x)).
-    inl (subst (λ (a : About). HasUnit r.solver.log (true_literal a.phases x)) step.onward.question u))
+    inl (subst (λ (a : About). HasUnit r.solver.log (true_literal a.phases x)) step.hearing.question u))
     (λ (l : slice_index q.seat.view.looks (x - 1) < slice_index r.seat.view.looks (x - 1)). inr
-    (omega (arith, l, step.onward.looks (x - 1))))
+    (omega (arith, l, step.hearing.looks (x - 1))))
     heard
 
 -- the bits below k
 pub record HasHeardBelow (b : Board) (p q : Post) (g mask k : ℕ) : Type 0 where
   pub listened : HasListened b p q
   pub heard : (i : ℕ) → i < k → HasHeardBit p q g mask i
+  pub taken : HasTaken p q
 
 pub heard_none : (b : Board) (p : Post) (g mask : ℕ) → IsPost p → Sits b p.seat → HasHeardBelow b p p g mask 0
-heard_none b p g mask h sits = record { listened = listened_refl b p h sits; heard = λ i low. absurd (omega (arith, low)) }
+heard_none b p g mask h sits = record {
+  listened = listened_refl b p h sits;
+  heard = λ i low. absurd (omega (arith, low));
+  taken = taken_refl p;
+}
 
 pub heard_next : (b : Board) (p q r : Post) (g mask k : ℕ) → HasHeardBelow b p q g mask k → HasListened b q r → HasHeardBit q r g mask k
-    → HasHeardBelow b p r g mask (k + 1)
-heard_next b p q r g mask k below step here = record {
+    → HasTaken q r → HasHeardBelow b p r g mask (k + 1)
+heard_next b p q r g mask k below step here takes = record {
   listened = listened_trans b p q r below.listened step;
   heard = λ i low is. ⊎_elim
       (λ (last : i ≡ k).
@@ -89,29 +91,36 @@ heard_next b p q r g mask k below step here = record {
       (subst (λ (j : ℕ). HasHeardOne q r (suc (32 * g + j))) (sym last) (here (subst (λ (j : ℕ). bit_at mask j ≡ 1) last is))))
       (λ (other : i ≢ k). still_heard b p q r (suc (32 * g + i)) step (below.heard i (omega (arith, low, other)) is))
       (cases_eq i k);
+  taken = taken_trans p q r below.taken takes below.listened.hearing.question step.hearing.log;
 }
 
 -- the groups below k
 pub record HasHeardUpTo (b : Board) (p q : Post) (k : ℕ) : Type 0 where
   pub listened : HasListened b p q
   pub heard : (g : ℕ) → g < k → HasHeardIn p q g
+  pub taken : HasTaken p q
 
 pub up_to_none : (b : Board) (p : Post) → IsPost p → Sits b p.seat → HasHeardUpTo b p p 0
-up_to_none b p h sits = record { listened = listened_refl b p h sits; heard = λ g low. absurd (omega (arith, low)) }
+up_to_none b p h sits = record {
+  listened = listened_refl b p h sits;
+  heard = λ g low. absurd (omega (arith, low));
+  taken = taken_refl p;
+}
 
-pub up_to_next : (b : Board) (p q r : Post) (k : ℕ) → HasHeardUpTo b p q k → HasListened b q r → HasHeardIn q r k → HasHeardUpTo b p r
-    (k + 1)
-up_to_next b p q r k below step here = record {
+pub up_to_next : (b : Board) (p q r : Post) (k : ℕ) → HasHeardUpTo b p q k → HasListened b q r → HasHeardIn q r k → HasTaken q r
+    → HasHeardUpTo b p r (k + 1)
+up_to_next b p q r k below step here takes = record {
   listened = listened_trans b p q r below.listened step;
   heard = λ g low i within is. ⊎_elim
       (λ (last : g ≡ k).
       heard_from b p q r (suc (32 * g + i)) below.listened
       (subst (λ (j : ℕ). HasHeardOne q r (suc (32 * j + i))) (sym last)
       (here i within
-      (ap (λ (ws : List ℕ). fixed ws (suc (32 * k + i))) below.listened.onward.copy
+      (ap (λ (ws : List ℕ). fixed ws (suc (32 * k + i))) below.listened.hearing.copy
       ∙ subst (λ (j : ℕ). fixed p.loaded.items (suc (32 * j + i)) ≡ 1) last is))))
       (λ (other : g ≢ k). still_heard b p q r (suc (32 * g + i)) step (below.heard g (omega (arith, low, other)) i within is))
       (cases_eq g k);
+  taken = taken_trans p q r below.taken takes below.listened.hearing.question step.hearing.log;
 }
 
 -- all groups
@@ -186,5 +195,5 @@ none_heard p g mask none i within is =
     let zero : bit_at mask i ≡ 0 = ap (λ (m : ℕ). bit_at m i) none ∙ bit_at-zero i in
     absurd (omega (arith, zero, is))
 
-pub loaded_still : (p q : Post) → IsOnward p q → IsLoaded p → IsLoaded q
+pub loaded_still : (p q : Post) → IsHearing p q → IsLoaded p → IsLoaded q
 loaded_still p q step copied = step.copy ∙ copied ∙ sym step.loaded

@@ -1,10 +1,10 @@
 -- A post after it looked for the origin of a variable, and after it took a literal over from another log.
 use Rattle.std.proofs.Common.{◌≡◌, ℕ, ◌+◌, ◌-◌, ◌<◌, ◌≤◌, inl, inr, IsTrue, max, List, [], ◌∷◌, ◌++◌, length, Contains, cond, refl, sym}
-use Rattle.std.proofs.Common.{ap, ◌∙◌, subst, arith}
+use Rattle.std.proofs.Common.{ap, ◌∙◌, subst, arith, append_assoc}
 use Rattle.std.specs.Prelude.{All, slice_index, nat_lt, Option, Some, None}
 use Rattle.std.proofs.lemmas.Bool.{cases_eq, cases_Bool, ltb-true, ltb-false, cond-true, cond-false}
 use Rattle.std.proofs.lemmas.List.{append-nil, get_or-set_same, get_or-set_other, get_or_push, length-append}
-use Rattle.std.proofs.lemmas.List.Elements.{All-push, All-weaker}
+use Rattle.std.proofs.lemmas.List.Elements.{All-push, All-weaker, All-append, All-nil}
 use Rattle.std.proofs.lemmas.List.Sums.{sum_by-append}
 use Rattle.cnf_core.specs.Literals.{Literal}
 use Rattle.cnf_core.specs.Formulas.{true_literal}
@@ -20,16 +20,17 @@ use Rattle.board_core.specs.declared.view.View.{View}
 use Rattle.board_core.specs.declared.view.Stamped.{Stamped}
 use Rattle.candidate_words.specs.Seats.{Board, Sitter, Sits}
 use Rattle.shared_fixed.specs.Stamps.{HasAskedStamp, word_of}
-use Rattle.shared_fixed.proofs.Imports.{imported, still_imported, top_after}
+use Rattle.shared_fixed.proofs.Imports.{imports_after, imported, still_imported, top_after}
 use Rattle.assumption_solver.specs.Units.{HasUnit, is_unit}
 use Rattle.assumption_solver.specs.SolverStates.{SolverState}
 use Rattle.worker_loop.specs.declared.post.Post.{Post}
 use Rattle.worker_loop.specs.Posts.{IsLonger}
 use Rattle.worker_loop.specs.Evidence.{IsImportOf, IsPublished, IsClocked}
 use Rattle.worker_loop.specs.Steps.Held.{IsPost}
-use Rattle.worker_loop.specs.Steps.Moves.{IsOnward, IsAskedTimes}
+use Rattle.worker_loop.specs.Steps.Moves.{IsHearing, HasTaken, IsAskedTimes}
 use Rattle.worker_loop.proofs.Queries.{same_queries}
-use Rattle.worker_loop.proofs.Grown.{told_longer, marks_longer, published_longer}
+use Rattle.worker_loop.proofs.Onward.{longer_same}
+use Rattle.worker_loop.proofs.Grown.{told_longer, marks_longer, published_longer, unit_longer}
 
 -- ---- any step of the seat and the solver that wins nothing
 
@@ -72,13 +73,6 @@ post_moved p t s h m =
       budget = h.budget;
       few = m.few;
     }
-
-pub longer_self : (L M : Recorded) → M ≡ L → IsLonger L M
-longer_self L M same = record {
-  formula = ap (λ (K : Recorded). K.formula) same;
-  more = [];
-  entries = ap (λ (K : Recorded). K.entries) same ∙ sym (append-nil L.entries);
-}
 
 -- the board of a seat is the question's
 pub same_about : (b : Board) (a : About) (s : Sitter) → Sits b s → IsView a s.view → b.about ≡ a
@@ -218,7 +212,7 @@ moved_asked b p t s x r h before after once asked same =
       once = subst (λ (c : About). IsOnce c t.view) is once;
       drops = ap (λ (u : View). u.drops) v;
       fixes = ap (λ (u : View). u.fixes) v;
-      log = longer_self p.solver.log s.log same;
+      log = longer_same p.solver.log s.log same;
       clocked = subst (λ (K : Recorded). IsClocked a t.view K) (sym same) (asked_clocked a p.seat t x r p.solver.log asked h.clocked);
       clock = omega (arith, ap (λ (K : Recorded). K.clock) same, h.clock);
       few = omega (arith, ap (λ (K : Recorded). learnt_count K.entries) same, h.few);
@@ -257,12 +251,12 @@ look_of p t x r h low high asked =
     (sym (ap (λ (u : View). u.looks) (asked_view p.seat t x r asked)))
     (looked p.seat.view.looks (x - 1) here)
 
--- the step is one onward, with any solver whose log has grown, and any marks
-pub onward_asked : (p q : Post) (x : ℕ) (r : Option ℕ) → IsPost p → 0 < x → x ≤ p.question.now.formula.vars
+-- the step is one that may import, with any solver whose log has grown, and any marks
+pub hearing_asked : (p q : Post) (x : ℕ) (r : Option ℕ) → IsPost p → 0 < x → x ≤ p.question.now.formula.vars
     → HasAskedStamp p.seat x r q.seat
     → q.question.now ≡ p.question.now → q.loaded.items ≡ p.loaded.items → q.budget ≡ p.budget → IsLonger p.solver.log q.solver.log
-    → IsOnward p q
-onward_asked p q x r h low high asked question copy budget log =
+    → IsHearing p q
+hearing_asked p q x r h low high asked question copy budget log =
     let v = asked_view p.seat q.seat x r asked in
     let here : x - 1 < length p.seat.view.looks = omega (arith, h.view.looks_length, low, high) in record {
       question = question;
@@ -280,4 +274,46 @@ onward_asked p q x r h low high asked question copy budget log =
           (looks_more p.seat.view.looks (x - 1) y here);
       log = log;
       budget = budget;
+    }
+
+-- ---- what was found
+
+-- nothing was
+pub taken_none : (p q : Post) → q.seat.view.imports ≡ p.seat.view.imports → HasTaken p q
+taken_none p q same = record {
+  found = [];
+  imports = same ∙ sym (append-nil p.seat.view.imports);
+  units = All-nil (λ (e : Stamped). HasUnit q.solver.log (true_literal p.question.now.phases e.var));
+}
+
+pub taken_refl : (p : Post) → HasTaken p p
+taken_refl p = taken_none p p refl
+
+-- the variable had no origin
+pub taken_no_stamp : (p q : Post) (x : ℕ) → HasAskedStamp p.seat x None q.seat → HasTaken p q
+taken_no_stamp p q x asked =
+    taken_none p q (ap (λ (u : View). u.imports) (asked_view p.seat q.seat x None asked) ∙ append-nil p.seat.view.imports)
+
+-- the origin of a variable, which became a root unit
+pub taken_one : (p q : Post) (x stamp : ℕ) → HasAskedStamp p.seat x (Some stamp) q.seat
+    → HasUnit q.solver.log (true_literal p.question.now.phases x) → HasTaken p q
+taken_one p q x stamp asked unit =
+    let P = λ (e : Stamped). HasUnit q.solver.log (true_literal p.question.now.phases e.var) in record {
+      found = stamped x stamp ∷ [];
+      imports = imports_after p.seat q.seat x stamp asked;
+      units = All-push P [] (stamped x stamp) (All-nil P) unit;
+    }
+
+-- steps after one another
+pub taken_trans : (p q r : Post) → HasTaken p q → HasTaken q r → q.question.now ≡ p.question.now
+    → IsLonger q.solver.log r.solver.log → HasTaken p r
+taken_trans p q r one two about log =
+    let P = λ (e : Stamped). HasUnit r.solver.log (true_literal p.question.now.phases e.var) in record {
+      found = one.found ++ two.found;
+      imports = two.imports ∙ ap (λ (es : List Stamped). es ++ two.found) one.imports
+          ∙ append_assoc p.seat.view.imports one.found two.found;
+      units = All-append P one.found two.found
+          (All-weaker (λ (e : Stamped). HasUnit q.solver.log (true_literal p.question.now.phases e.var)) P
+          (λ e unit. unit_longer q.solver.log r.solver.log _ log unit) one.found one.units)
+          (subst (λ (a : About). All (λ (e : Stamped). HasUnit r.solver.log (true_literal a.phases e.var)) two.found) about two.units);
     }

@@ -15,7 +15,8 @@ use Rattle.candidate_words.specs.Seats.{Board, Sitter, Sits, HasLoaded}
 use Rattle.worker_loop.specs.declared.post.Post.{Post}
 use Rattle.worker_loop.specs.Steps.Held.{IsPost}
 use Rattle.worker_loop.specs.Steps.Moves.{HasLoadedAll, IsLoaded}
-use Rattle.worker_loop.proofs.Imports.{HasMoved, post_moved, clocked_view, longer_self, same_about}
+use Rattle.worker_loop.proofs.Imports.{HasMoved, post_moved, clocked_view, same_about}
+use Rattle.worker_loop.proofs.Onward.{longer_same}
 
 -- the groups below k are loaded, each once, and the others are as they were
 pub record HasLoadedUpTo (b : Board) (p q : Post) (k : ℕ) : Type 0 where
@@ -27,6 +28,7 @@ pub record HasLoadedUpTo (b : Board) (p q : Post) (k : ℕ) : Type 0 where
   pub next : q.seat.view.next ≡ p.seat.view.next
   pub out : q.seat.view.out ≡ p.seat.view.out
   pub looks : q.seat.view.looks ≡ p.seat.view.looks
+  pub imports : q.seat.view.imports ≡ p.seat.view.imports
   pub solver : q.solver ≡ p.solver
   pub models : q.models ≡ p.models
   pub drops : q.drops ≡ p.drops
@@ -48,6 +50,7 @@ none_loaded b p h sits = record {
   next = refl;
   out = refl;
   looks = refl;
+  imports = refl;
   solver = refl;
   models = refl;
   drops = refl;
@@ -73,7 +76,7 @@ post_loaded b p t g w h before after once step =
       once = subst (λ (c : About). IsOnce c t.view) is once;
       drops = ap (λ (u : View). u.drops) v;
       fixes = ap (λ (u : View). u.fixes) v;
-      log = longer_self p.solver.log p.solver.log refl;
+      log = longer_same p.solver.log p.solver.log refl;
       clocked = clocked_view a p.seat.view t.view p.solver.log (omega (arith, ap top imports))
           (λ s here. subst (λ (ps : List Stamped). Contains ps s) (sym imports) here)
           (ap (λ (u : View). u.published) v) (ap (λ (u : View). u.fixes) v) h.clocked;
@@ -124,6 +127,7 @@ load_next b p q t k w up low after once step =
       next = ap (λ (u : View). u.next) v ∙ up.next;
       out = ap (λ (u : View). u.out) v ∙ up.out;
       looks = ap (λ (u : View). u.looks) v ∙ up.looks;
+      imports = ap (λ (u : View). u.imports) v ∙ up.imports;
       solver = up.solver;
       models = up.models;
       drops = up.drops;
@@ -185,6 +189,7 @@ all_loaded b p q k high up = record {
   next = up.next;
   out = up.out;
   looks = up.looks;
+  imports = up.imports;
   solver = up.solver;
   models = up.models;
   drops = up.drops;

@@ -12,7 +12,7 @@ use Rattle.worker_loop.specs.declared.post.Post.{Post}
 use Rattle.worker_loop.specs.Posts.{IsLonger}
 use Rattle.candidate_words.specs.Seats.{Board, Sits}
 use Rattle.worker_loop.specs.Steps.Held.{IsPost}
-use Rattle.worker_loop.specs.Steps.Moves.{IsOnward, IsClosed}
+use Rattle.worker_loop.specs.Steps.Moves.{IsOnward, IsHearing, IsClosed}
 use Rattle.worker_loop.proofs.Counts.{open_later}
 
 pub longer_refl : (L : Recorded) → IsLonger L L
@@ -46,12 +46,51 @@ onward_refl p = record {
   copy = refl;
   seen = seen_refl (groups p.question.now.formula.vars) p.seat.view.seen;
   looks = λ x. omega arith;
+  imports = refl;
   log = longer_refl p.solver.log;
   budget = refl;
 }
 
 pub onward_trans : (p q r : Post) → IsOnward p q → IsOnward q r → IsOnward p r
 onward_trans p q r one two = record {
+  question = two.question ∙ one.question;
+  table = two.table ∙ one.table;
+  number = two.number ∙ one.number;
+  next = two.next ∙ one.next;
+  out = two.out ∙ one.out;
+  loaded = two.loaded ∙ one.loaded;
+  loads = two.loads ∙ one.loads;
+  copy = two.copy ∙ one.copy;
+  seen = seen_trans (groups p.question.now.formula.vars) p.seat.view.seen q.seat.view.seen r.seat.view.seen one.seen
+      (subst (λ (a : About). AreEarlier (groups a.formula.vars) q.seat.view.seen r.seat.view.seen) one.question two.seen);
+  looks = λ x. omega (arith, one.looks x, two.looks x);
+  imports = two.imports ∙ one.imports;
+  log = longer_trans p.solver.log q.solver.log r.solver.log one.log two.log;
+  budget = two.budget ∙ one.budget;
+}
+
+-- the same of steps that may import
+pub onward_hearing : (p q : Post) → IsOnward p q → IsHearing p q
+onward_hearing p q is = record {
+  question = is.question;
+  table = is.table;
+  number = is.number;
+  next = is.next;
+  out = is.out;
+  loaded = is.loaded;
+  loads = is.loads;
+  copy = is.copy;
+  seen = is.seen;
+  looks = is.looks;
+  log = is.log;
+  budget = is.budget;
+}
+
+pub hearing_refl : (p : Post) → IsHearing p p
+hearing_refl p = onward_hearing p p (onward_refl p)
+
+pub hearing_trans : (p q r : Post) → IsHearing p q → IsHearing q r → IsHearing p r
+hearing_trans p q r one two = record {
   question = two.question ∙ one.question;
   table = two.table ∙ one.table;
   number = two.number ∙ one.number;
@@ -152,6 +191,7 @@ stepped_counted b p q k is = record {
     copy = is.onward.copy;
     seen = is.onward.seen;
     looks = is.onward.looks;
+    imports = is.onward.imports;
     log = is.onward.log;
     budget = is.onward.budget;
   };

@@ -99,6 +99,7 @@ onward_solver p s log = record {
   copy = refl;
   seen = seen_refl (groups p.question.now.formula.vars) p.seat.view.seen;
   looks = λ x. omega arith;
+  imports = refl;
   log = log;
   budget = refl;
 }

@@ -16,6 +16,7 @@ use Rattle.core_chunks.specs.Chunks.{open_mask}
 use Rattle.core_chunks.proofs.Parts.{open_bit}
 use Rattle.model_check.specs.Flips.{flipped}
 use Rattle.model_store.specs.Stores.{Store}
+use Rattle.worker_loop.proofs.Words.{open_candidate}
 use Rattle.worker_loop.specs.Evidence.{IsWitness}
 use Rattle.worker_loop.specs.Steps.Dropping.{var_at, witness_of, IsStoredAt}
 
@@ -36,23 +37,14 @@ open_bit_at ws g w m i word range mask within =
     ∙ ap (λ (j : ℕ). bit_at (slice_index ws ((32 * g + i) / 32)) j - bit_at (slice_index ws ((32 * g + i) / 32)) (32 + j)) (sym place)
 
 -- what is open is a candidate
-pub open_candidate : (a : About) (ws : List ℕ) (g i : ℕ) → AreWords a ws → g < groups a.formula.vars → i < 32
-    → open_at ws (var_at g i) ≡ 1 → candidate a.formula (var_at g i) ≡ 1
-open_candidate a ws g i words low within is =
-    let group : (32 * g + i) / 32 ≡ g = omega arith in
-    let place : (32 * g + i) % 32 ≡ i = omega arith in
-    let both = words.inside g low i within in
-    let alive_is : bit_at (slice_index ws ((32 * g + i) / 32)) ((32 * g + i) % 32) ≡ bit_at (slice_index ws g) i =
-    ap (λ (h : ℕ). bit_at (slice_index ws h) ((32 * g + i) % 32)) group ∙ ap (λ (j : ℕ). bit_at (slice_index ws g) j) place in
-    omega (arith, alive_is, both.0, is, candidate-lt a.formula (var_at g i))
-
 pub open_bit_candidate : (a : About) (ws view_ws : List ℕ) (g w m i : ℕ) → AreWords a view_ws → ws ≡ view_ws → w ≡ slice_index_or ws g w
     → w < 18446744073709551616 → m ≡ open_mask w → g < groups a.formula.vars → i < 32 → bit_at m i ≡ 1
     → candidate a.formula (var_at g i) ≡ 1
 open_bit_candidate a ws view_ws g w m i words copied read range mask low within on =
     let here : AreWords a ws = subst (λ (us : List ℕ). AreWords a us) (sym copied) words in
     let size = here.size in
-    open_candidate a ws g i here low within (sym (open_bit_at ws g w m i (word_at ws g w read (omega arith)) range mask within) ∙ on)
+    let one : open_at ws (var_at g i) ≡ 1 = sym (open_bit_at ws g w m i (word_at ws g w read (omega arith)) range mask within) ∙ on in
+    omega (arith, one, open_candidate a ws here (var_at g i), candidate-lt a.formula (var_at g i))
 
 -- what is closed stays so
 pub stays_closed : (n g i : ℕ) (was now : List ℕ) → AreEarlier (groups n) was now → g < groups n → i < 32 → open_at was (var_at g i) ≡ 0

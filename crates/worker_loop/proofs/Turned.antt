@@ -16,12 +16,12 @@ use Rattle.worker_loop.specs.Posts.{PostState, IsLater}
 use Rattle.worker_loop.specs.Evidence.{IsSettled, IsPaced}
 use Rattle.worker_loop.specs.Turns.{closed_count, Goes, IsWorked}
 use Rattle.worker_loop.specs.Steps.Held.{IsPost, IsBetweenTurns, state_of}
-use Rattle.worker_loop.specs.Steps.Moves.{IsLoaded, IsOnward, HasLoadedAll, HasHeard, IsAskedTimes, IsUnmoved, KeepsSettled}
+use Rattle.worker_loop.specs.Steps.Moves.{IsLoaded, IsOnward, IsHearing, HasLoadedAll, HasHeard, HasTaken, IsAskedTimes, IsUnmoved, KeepsSettled}
 use Rattle.worker_loop.specs.Steps.Following.{Follows, PostSays}
 use Rattle.worker_loop.proofs.Counts.{open_later, open_and_closed}
 use Rattle.worker_loop.proofs.Queries.{asked_after, asked_same}
-use Rattle.worker_loop.proofs.Onward.{onward_trans}
-use Rattle.worker_loop.proofs.Settling.{settled_onward}
+use Rattle.worker_loop.proofs.Onward.{onward_hearing, hearing_trans}
+use Rattle.worker_loop.proofs.Settling.{settled_onward, settled_hearing}
 use Rattle.worker_loop.proofs.Turning.{learnt_longer, count_later, settled_later, paced_by, paced_spent, unmoved_onward, loaded_later, worked_of, open_less}
 
 -- p loaded all words and so became q; its next block was set (r); it heard of the others (s); and it worked (t)
@@ -31,8 +31,9 @@ pub record HasTurned (p q r s t : Post) : Type 0 where
   pub post_q : IsPost q
   pub same : IsUnmoved q r
   pub post_r : IsPost r
-  pub hearing : IsOnward r s
+  pub hearing : IsHearing r s
   pub heard : HasHeard r s
+  pub taken : HasTaken r s
   pub asked_s : IsAskedTimes 0 r.solver.log s.solver.log
   pub models_s : s.models ≡ r.models
   pub post_s : IsPost s
@@ -41,14 +42,15 @@ pub record HasTurned (p q r s t : Post) : Type 0 where
   pub post_t : IsPost t
   pub some : 0 < open_count q.loaded.items q.question.now.formula.vars
 
-all_onward : (p q r s t : Post) → HasTurned p q r s t → IsOnward q t
-all_onward p q r s t is = onward_trans q r t (unmoved_onward q r is.same) (onward_trans r s t is.hearing is.working)
+all_onward : (p q r s t : Post) → HasTurned p q r s t → IsHearing q t
+all_onward p q r s t is =
+    hearing_trans q r t (onward_hearing q r (unmoved_onward q r is.same)) (hearing_trans r s t is.hearing (onward_hearing s t is.working))
 
 pub turn_later : (p q r s t : Post) → HasTurned p q r s t → IsLater (state_of p) (state_of t)
 turn_later p q r s t is = loaded_later p q t is.loads (all_onward p q r s t is)
 
 pub turn_worked : (p q r s t : Post) → HasTurned p q r s t → IsWorked (state_of p) (state_of t)
-turn_worked p q r s t is = worked_of p q r s t is.loads is.copied is.same is.hearing is.heard is.working is.some
+turn_worked p q r s t is = worked_of p q r s t is.loads is.copied is.same is.hearing is.heard is.taken is.working is.some
 
 -- what the turn says by its end
 says_by : (p q r s t : Post) (end : TurnEnd) → HasTurned p q r s t → Follows end t → PostSays end (state_of p) (state_of t)
@@ -80,7 +82,7 @@ asked_all p q r s t is =
     is.asked_s is.asked_t)
 
 -- what a turn that goes on has closed
-closes : (p q t : Post) → HasLoadedAll p q → IsOnward q t → IsPost t → Goes (state_of t)
+closes : (p q t : Post) → HasLoadedAll p q → IsHearing q t → IsPost t → Goes (state_of t)
     → 2 * open_count t.seat.view.seen p.question.now.formula.vars + 2 ≤ 2 * open_count p.seat.view.seen p.question.now.formula.vars
 closes p q t loads onward post goes =
     let n : ℕ = p.question.now.formula.vars in
@@ -111,7 +113,7 @@ paced_end p q r s t Memory is follows paced = absurd follows
 pub turn_between : (p q r s t : Post) (res : Result TurnEnd NoMemory) → HasTurned p q r s t → IfOk res (λ end. Follows end t)
     → OnOk res (KeepsSettled s t) → OnOk res (IsBetweenTurns (state_of p) → IsBetweenTurns (state_of t))
 turn_between p q r s t (Ok end) is follows keeps = λ between. record {
-  settled = keeps (settled_onward r s is.post_s is.hearing is.models_s
+  settled = keeps (settled_hearing r s is.post_s is.hearing is.models_s
       (settled_onward q r is.post_r (unmoved_onward q r is.same) is.same.models (settled_loads p q is.loads is.post_q between.settled)));
   paced = paced_end p q r s t end is follows between.paced;
 }
@@ -132,10 +134,10 @@ done_between p q loads post between =
     }
 
 -- all of it, where the block that was asked about has a candidate
-pub has_turned : (p q r s t : Post) (block : List ℕ) → HasLoadedAll p q → IsLoaded q → IsPost q → IsUnmoved q r → IsPost r → IsOnward r s
-    → HasHeard r s → IsAskedTimes 0 r.solver.log s.solver.log → s.models ≡ r.models → IsPost s → IsOnward s t → IsAskedTimes 2 s.solver.log t.solver.log
+pub has_turned : (p q r s t : Post) (block : List ℕ) → HasLoadedAll p q → IsLoaded q → IsPost q → IsUnmoved q r → IsPost r → IsHearing r s
+    → HasHeard r s → HasTaken r s → IsAskedTimes 0 r.solver.log s.solver.log → s.models ≡ r.models → IsPost s → IsOnward s t → IsAskedTimes 2 s.solver.log t.solver.log
     → IsPost t → IsBlockOf q.loaded.items q.question.now.formula.vars 256 block → 0 < length block → HasTurned p q r s t
-has_turned p q r s t block loads copied post_q same post_r hearing heard asked_s models_s post_s working asked_t post_t is some = record {
+has_turned p q r s t block loads copied post_q same post_r hearing heard taken asked_s models_s post_s working asked_t post_t is some = record {
   loads = loads;
   copied = copied;
   post_q = post_q;
@@ -143,6 +145,7 @@ has_turned p q r s t block loads copied post_q same post_r hearing heard asked_s
   post_r = post_r;
   hearing = hearing;
   heard = heard;
+  taken = taken;
   asked_s = asked_s;
   models_s = models_s;
   post_s = post_s;

@@ -4,6 +4,7 @@ use Rattle.std.specs.Prelude.{slice_index}
 use Rattle.std.specs.Int.{bit_at}
 use Rattle.std.proofs.lemmas.Bool.{cases_lt}
 use Rattle.std.proofs.lemmas.List.Sums.{sum_by-append}
+use Rattle.std.proofs.lemmas.List.Elements.{All-weaker}
 use Rattle.std.proofs.lemmas.Nat.Bits.{bit_at-lt}
 use Rattle.lrat_log.specs.Entries.{Entry, Recorded, is_learnt_entry, learnt_count}
 use Rattle.lrat_log.specs.Laws.{learning_queries}
@@ -11,11 +12,12 @@ use Rattle.board_core.specs.Subjects.{About, groups}
 use Rattle.board_core.specs.Words.{Earlier, fixed, open_at}
 use Rattle.board_core.specs.Rules.{AreEarlier, AreWords}
 use Rattle.board_core.specs.declared.view.View.{View}
+use Rattle.board_core.specs.declared.view.Stamped.{Stamped}
 use Rattle.model_store.specs.Stores.{Store}
 use Rattle.core_chunks.specs.Chunks.{open_count}
 use Rattle.worker_loop.specs.Posts.{PostState, IsLonger, IsLater}
 use Rattle.worker_loop.specs.Evidence.{IsSettled, IsPaced}
-use Rattle.worker_loop.specs.Steps.Moves.{IsLoaded, IsOnward, HasLoadedAll, HasHeard, IsAskedTimes, IsUnmoved}
+use Rattle.worker_loop.specs.Steps.Moves.{IsLoaded, IsOnward, IsHearing, HasLoadedAll, HasHeard, HasTaken, IsAskedTimes, IsUnmoved}
 use Rattle.worker_loop.proofs.Blocks.{open-le-one}
 use Rattle.worker_loop.proofs.Counts.{open_later}
 use Rattle.worker_loop.proofs.Words.{none_past}
@@ -25,10 +27,10 @@ use Rattle.candidate_words.specs.Seats.{Sitter}
 use Rattle.assumption_solver.specs.SolverStates.{SolverState}
 use Rattle.assumption_solver.specs.Units.{HasUnit}
 use Rattle.worker_loop.specs.declared.post.Post.{Post}
-use Rattle.worker_loop.specs.Turns.{Heard, IsWorked}
+use Rattle.worker_loop.specs.Turns.{Heard, AreTaken, IsWorked}
 use Rattle.worker_loop.specs.Steps.Held.{state_of}
 use Rattle.worker_loop.proofs.Grown.{unit_longer}
-use Rattle.worker_loop.proofs.Onward.{longer_same, longer_trans, seen_trans, onward_trans}
+use Rattle.worker_loop.proofs.Onward.{longer_same, longer_trans, seen_trans, onward_hearing, hearing_trans}
 
 abbrev mark : Bool → ℕ
 mark b = cond b 1 0
@@ -115,12 +117,13 @@ unmoved_onward p q same = record {
   copy = same.copy;
   seen = λ g low. subst (λ (s : Sitter). Earlier (slice_index p.seat.view.seen g) (slice_index s.view.seen g)) (sym same.seat) (earlier_refl (slice_index p.seat.view.seen g));
   looks = λ x. subst (λ (s : Sitter). slice_index p.seat.view.looks x ≤ slice_index s.view.looks x) (sym same.seat) (omega arith);
+  imports = ap (λ (s : Sitter). s.view.imports) same.seat;
   log = longer_same p.solver.log q.solver.log (ap (λ (s : SolverState). s.log) same.solver);
   budget = same.budget;
 }
 
 -- the loads and what followed
-pub loaded_later : (p q r : Post) → HasLoadedAll p q → IsOnward q r → IsLater (state_of p) (state_of r)
+pub loaded_later : (p q r : Post) → HasLoadedAll p q → IsHearing q r → IsLater (state_of p) (state_of r)
 loaded_later p q r loads onward =
     let vars : q.question.now.formula.vars ≡ p.question.now.formula.vars = ap (λ (a : About). a.formula.vars) loads.question in
     let seen : AreEarlier (groups p.question.now.formula.vars) q.seat.view.seen r.seat.view.seen =
@@ -156,12 +159,30 @@ heard_of p q r s loads copied same heard t onward x low high is =
     (λ (looked : slice_index r.seat.view.looks (x - 1) < slice_index s.seat.view.looks (x - 1)). inr (omega (arith, before, looked, onward.looks (x - 1))))
     (heard x low within there)
 
+-- what was found when the others were heard is taken at the turn's end
+taken_of : (p q r s t : Post) → HasLoadedAll p q → IsUnmoved q r → HasTaken r s → IsOnward s t
+    → AreTaken p.question.now p.seat.view t.seat.view t.solver.log
+taken_of p q r s t loads same taken onward =
+    let before : r.seat.view.imports ≡ p.seat.view.imports = ap (λ (u : Sitter). u.view.imports) same.seat ∙ loads.imports in
+    let about : r.question.now ≡ p.question.now = same.question ∙ loads.question in
+    record {
+      found = taken.found;
+      imports = onward.imports ∙ taken.imports ∙ ap (λ (ps : List Stamped). ps ++ taken.found) before;
+      units = All-weaker (λ (e : Stamped). HasUnit s.solver.log (true_literal r.question.now.phases e.var))
+          (λ (e : Stamped). HasUnit t.solver.log (true_literal p.question.now.phases e.var))
+          (λ e unit. unit_longer s.solver.log t.solver.log (true_literal p.question.now.phases e.var) onward.log
+          (subst (λ (a : About). HasUnit s.solver.log (true_literal a.phases e.var)) about unit))
+          taken.found taken.units;
+    }
+
 -- a turn that had something to do
-pub worked_of : (p q r s t : Post) → HasLoadedAll p q → IsLoaded q → IsUnmoved q r → IsOnward r s → HasHeard r s → IsOnward s t
+pub worked_of : (p q r s t : Post) → HasLoadedAll p q → IsLoaded q → IsUnmoved q r → IsHearing r s → HasHeard r s → HasTaken r s
+    → IsOnward s t
     → 0 < open_count q.loaded.items q.question.now.formula.vars → IsWorked (state_of p) (state_of t)
-worked_of p q r s t loads copied same first heard onward some =
+worked_of p q r s t loads copied same first heard taken onward some =
     let n : ℕ = p.question.now.formula.vars in
-    let all : IsOnward q t = onward_trans q r t (unmoved_onward q r same) (onward_trans r s t first onward) in
+    let all : IsHearing q t = hearing_trans q r t (onward_hearing q r (unmoved_onward q r same))
+    (hearing_trans r s t first (onward_hearing s t onward)) in
     let vars : q.question.now.formula.vars ≡ n = ap (λ (a : About). a.formula.vars) loads.question in
     let words : t.seat.view.loaded ≡ q.seat.view.loaded = all.loaded in
     record {
@@ -169,10 +190,11 @@ worked_of p q r s t loads copied same first heard onward some =
       after = subst (λ (ws : List ℕ). AreEarlier (groups n) p.seat.view.seen ws) (sym words) loads.later;
       some_open = subst (λ (ws : List ℕ). 0 < open_count ws n) (copied ∙ sym words) (subst (λ (m : ℕ). 0 < open_count q.loaded.items m) vars some);
       heard = heard_of p q r s loads copied same heard t onward;
+      taken = taken_of p q r s t loads same taken onward;
     }
 
 -- what was open when the turn began, and what is at its end
-pub open_less : (p q : Post) (r : Post) → HasLoadedAll p q → IsOnward q r → open_count r.seat.view.loaded p.question.now.formula.vars
+pub open_less : (p q : Post) (r : Post) → HasLoadedAll p q → IsHearing q r → open_count r.seat.view.loaded p.question.now.formula.vars
     ≤ open_count p.seat.view.seen p.question.now.formula.vars
 open_less p q r loads onward =
     subst (λ (ws : List ℕ). open_count ws p.question.now.formula.vars ≤ open_count p.seat.view.seen p.question.now.formula.vars) (sym onward.loaded)

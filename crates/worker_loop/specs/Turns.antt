@@ -1,13 +1,14 @@
 -- What a turn answers, and what each answer says.
-use Rattle.std.specs.Prelude.{◌≡◌, ℕ, zero, suc, ◌+◌, ◌-◌, ◌<◌, ◌≤◌, ◌⊎◌, true, List, length, slice_index, All, Contains, min}
+use Rattle.std.specs.Prelude.{◌≡◌, ℕ, zero, suc, ◌+◌, ◌-◌, ◌<◌, ◌≤◌, ◌⊎◌, true, List, ◌++◌, length, slice_index, All, Contains, min}
 use Rattle.cnf_core.specs.Literals.{Literal}
 use Rattle.cnf_core.specs.Formulas.{true_literal}
 use Rattle.lrat_log.specs.declared.kind.Kind.TheVariants.{Unit as UnitKind, Core}
-use Rattle.lrat_log.specs.Entries.{entry_at, learnt_count}
+use Rattle.lrat_log.specs.Entries.{Recorded, entry_at, learnt_count}
 use Rattle.board_core.specs.Subjects.{About, groups}
 use Rattle.board_core.specs.Words.{fixed, open_at}
 use Rattle.board_core.specs.Rules.{AreEarlier}
 use Rattle.board_core.specs.declared.view.View.{View}
+use Rattle.board_core.specs.declared.view.Stamped.{Stamped}
 use Rattle.core_chunks.specs.Chunks.{open_count}
 use Rattle.assumption_solver.specs.Units.{HasUnit}
 use Rattle.worker_loop.specs.declared.endings.TurnEnd.{TurnEnd}
@@ -28,6 +29,12 @@ abbrev pub Heard : PostState → PostState → Type 0
 Heard p q = (x : ℕ) → 0 < x → x ≤ p.about.formula.vars → fixed p.seat.view.seen x ≡ 1
     → HasUnit q.log (true_literal p.about.phases x)
     ⊎ (slice_index p.seat.view.looks (x - 1) < slice_index q.seat.view.looks (x - 1))
+
+-- the phase literal of each origin that the view has found since is a root unit
+pub record AreTaken (a : About) (v u : View) (L : Recorded) : Type 0 where
+  pub found : List Stamped
+  pub imports : u.imports ≡ v.imports ++ found
+  pub units : All (λ (p : Stamped). HasUnit L (true_literal a.phases p.var)) found
 
 -- a phase literal whose variable was open
 pub record WasOpen (p : PostState) (l : Literal) : Type 0 where
@@ -50,12 +57,14 @@ pub record Goes (p : PostState) : Type 0 where
   pub share : (min 256 (open_count p.seat.view.loaded p.about.formula.vars)
       ≤ closed_count p.seat.view.loaded p.seat.view.seen p.about.formula.vars) ⊎ IsRefuted p
 
--- all groups were loaded first, some candidate was open, and what others fixed was heard of
+-- all groups were loaded first, some candidate was open, what others fixed was heard of, and each origin that was found
+-- is a root unit
 pub record IsWorked (p q : PostState) : Type 0 where
   pub once : LoadedOnce p.about p.seat.view q.seat.view
   pub after : AreEarlier (groups p.about.formula.vars) p.seat.view.seen q.seat.view.loaded
   pub some_open : 0 < open_count q.seat.view.loaded p.about.formula.vars
   pub heard : Heard p q
+  pub taken : AreTaken p.about p.seat.view q.seat.view q.log
 
 -- all groups were loaded, and show nothing open
 pub record IsDone (p q : PostState) : Type 0 where

@@ -10,7 +10,7 @@ ghost use Rattle.model_store.specs.Stores.{with_model};
 ghost use Rattle.worker_loop.specs.Evidence.{IsSettled};
 ghost use Rattle.worker_loop.specs.Steps.Held.{IsPost};
 ghost use Rattle.worker_loop.specs.Steps.Moves.{IsLoaded, IsOnward, IsDropped};
-ghost use Rattle.worker_loop.specs.Steps.Dropping.{HasCandidates, AreAgainst, KeepPhases, AreTriedBy, CanBeTried, AreFree, AreWitnessed, AreBitsClosed, IsSameButSeat, IsSameButMarks, IsStoredAt, HasDroppedIn, HasDroppedAll, IsKeepingAt, witness_of};
+ghost use Rattle.worker_loop.specs.Steps.Dropping.{HasCandidates, AreAgainst, KeepPhases, AreTriedBy, CanBeTried, AreFree, AreWitnessed, AreBitsClosed, IsSameButSeat, IsSameButMarks, IsStoredAt, HasDroppedIn, HasDroppedAll, IsKeepingAt, source_at, witness_of};
 ghost use Rattle.std.specs.Vec.{vec_len, vec_capacity};
 
 use crate::masks::{has_bit, open_bits};
@@ -36,6 +36,15 @@ pub(crate) enum Flips {
 struct Source {
     model: u32,
     flip: bool,
+}
+
+impl Source {
+    /// A stored model by its place, as it stands or with the dropped variable flipped.
+    fn of(place: u32, flip: bool) -> Source
+        ensures { result ≡ source_at place flip }
+    {
+        Source { model: place, flip }
+    }
 }
 
 impl<'f, 'r> Post<'f, 'r> {
@@ -120,26 +129,10 @@ impl<'f, 'r> Post<'f, 'r> {
             return;
         }
         let against = self.against_bits(group, open, model);
-        self.drop_mask(
-            words,
-            group,
-            against,
-            Source {
-                model: place,
-                flip: false,
-            },
-        );
+        self.drop_mask(words, group, against, Source::of(place, false));
         let kept = open & !against;
         let free = self.free_bits(group, kept, model, flips);
-        self.drop_mask(
-            words,
-            group,
-            free,
-            Source {
-                model: place,
-                flip: true,
-            },
-        );
+        self.drop_mask(words, group, free, Source::of(place, true));
     }
 
     /// Those of the group's open variables to which the model gives the value opposite to their phases.

@@ -1,18 +1,20 @@
 //! Fixing what the log shows.
-ghost use Rattle.std.specs.Prelude.{◌≡◌, All};
+ghost use Rattle.std.specs.Prelude.{◌≡◌, ◌+◌, ◌^◌, ◌≤◌, All};
 ghost use Rattle.cnf_core.specs.Literals.{Literal};
 ghost use Rattle.cnf_core.specs.Formulas.{Entails};
 ghost use Rattle.lrat_log.specs.Kept.{IsLog};
 ghost use Rattle.assumption_solver.specs.Units.{HasUnit};
 ghost use Rattle.board_core.specs.Subjects.{candidate};
-ghost use Rattle.candidate_words.specs.Seats.{Sits};
+ghost use Rattle.board_core.specs.Boards.{MayPublish, publish_view};
+ghost use Rattle.board_core.specs.Rules.{IsOnce};
+ghost use Rattle.candidate_words.specs.Seats.{Sits, with_view};
 ghost use Rattle.worker_loop.specs.Evidence.{IsRooted};
 ghost use Rattle.worker_loop.specs.Steps.Held.{IsPost};
 ghost use Rattle.worker_loop.specs.Steps.Moves.{IsLoaded, IsOnward, IsClosed};
 
 use crate::masks::{bit_of, group_of};
 use crate::post::Post;
-use candidate_words::Words;
+use candidate_words::{Seat, Words};
 use cnf_core::Lit;
 use core_chunks::is_open;
 use lrat_log::Log;
@@ -40,8 +42,7 @@ impl<'f, 'r> Post<'f, 'r> {
         let won = words.fix_bits(&mut self.seat, group_of(var), bit_of(var));
         if won != 0 {
             self.fixes.push_reserved(lit);
-            let stamp = self.solver.log().clock() + 1;
-            publish(words, &mut self.seat, var, stamp);
+            publish_next(words, &mut self.seat, var, self.solver.log());
         }
     }
 
@@ -99,6 +100,18 @@ impl<'f, 'r> Post<'f, 'r> {
             self.fix(words, lit);
         }
     }
+}
+
+/// Publishes a variable that the seat has fixed, with the stamp after the log's clock.
+fn publish_next(words: &Words, seat: &mut Seat, var: u32, log: &Log)
+    requires seat { Sits words.now seat.old }
+    requires clock { log.now.clock ≤ 2 ^ 20 }
+    requires publishes { MayPublish seat.old.view var (log.now.clock + 1) }
+    ensures published { seat.new ≡ with_view seat.old (publish_view var (log.now.clock + 1) seat.old.view) }
+    ensures sits { Sits words.now seat.new }
+    ensures once { IsOnce words.now.about seat.new.view }
+{
+    publish(words, seat, var, log.clock() + 1);
 }
 
 /// What a log shows by itself holds in every model.

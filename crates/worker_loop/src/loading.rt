@@ -5,8 +5,8 @@ ghost use Rattle.board_core.specs.Subjects.{groups};
 ghost use Rattle.candidate_words.specs.Seats.{Sits};
 ghost use Rattle.assumption_solver.specs.Units.{HasUnit};
 ghost use Rattle.worker_loop.specs.Steps.Held.{IsPost};
-ghost use Rattle.worker_loop.specs.Steps.Moves.{IsLoaded, HasLoadedAll, IsOnward, IsAskedTimes, IsSameButRooted};
-ghost use Rattle.worker_loop.specs.Steps.Moves.{HasHeard, HasHeardOne, HasHeardBit, HasHeardBits, HasHeardIn, HasListened};
+ghost use Rattle.worker_loop.specs.Steps.Moves.{IsLoaded, HasLoadedAll, IsHearing, IsAskedTimes, IsSameButRooted};
+ghost use Rattle.worker_loop.specs.Steps.Moves.{HasHeard, HasHeardOne, HasHeardBit, HasHeardBits, HasHeardIn, HasTaken, HasListened};
 ghost use Rattle.worker_loop.specs.Steps.Dropping.{HasCandidates};
 
 use crate::masks::{bit_of, fixed_unknown, group_of, has_bit};
@@ -38,11 +38,12 @@ impl<'f, 'r> Post<'f, 'r> {
         requires copied { IsLoaded self.old }
         ensures post { IsPost self.new }
         ensures sits { Sits words.now self.new.seat }
-        ensures onward { IsOnward self.old self.new }
+        ensures hearing { IsHearing self.old self.new }
         ensures models { self.new.models ≡ self.old.models }
         ensures seen { self.new.seat.view.seen ≡ self.old.seat.view.seen }
         ensures asked { IsAskedTimes 0 self.old.solver.log self.new.solver.log }
         ensures heard { OnOk result (HasHeard self.old self.new) }
+        ensures taken { OnOk result (HasTaken self.old self.new) }
     {
         for group in 0..self.loaded.len() {
             self.hear_in(words, group)?;
@@ -58,6 +59,7 @@ impl<'f, 'r> Post<'f, 'r> {
         requires group { group < groups self.old.question.now.formula.vars }
         ensures listened { HasListened words.now self.old self.new }
         ensures heard { OnOk result (HasHeardIn self.old self.new group) }
+        ensures taken { OnOk result (HasTaken self.old self.new) }
     {
         let unknown = fixed_unknown(self.loaded[group], self.rooted[group]);
         if unknown == 0 {
@@ -74,6 +76,7 @@ impl<'f, 'r> Post<'f, 'r> {
         requires candidates { HasCandidates self.old.question.now group fixed }
         ensures listened { HasListened words.now self.old self.new }
         ensures heard { OnOk result (HasHeardBits self.old self.new group fixed) }
+        ensures taken { OnOk result (HasTaken self.old self.new) }
     {
         for bit in 0..32 {
             self.hear_bit(words, group, fixed, bit)?;
@@ -90,6 +93,7 @@ impl<'f, 'r> Post<'f, 'r> {
         requires bit { bit < 32 }
         ensures listened { HasListened words.now self.old self.new }
         ensures heard { OnOk result (HasHeardBit self.old self.new group fixed bit) }
+        ensures taken { OnOk result (HasTaken self.old self.new) }
     {
         if has_bit(fixed, bit) {
             return self.hear_one(words, 32 * group + bit + 1);
@@ -105,11 +109,12 @@ impl<'f, 'r> Post<'f, 'r> {
         requires var { (0 < var) × (var ≤ self.old.question.now.formula.vars) }
         ensures post { IsPost self.new }
         ensures sits { Sits words.now self.new.seat }
-        ensures onward { IsOnward self.old self.new }
+        ensures hearing { IsHearing self.old self.new }
         ensures models { self.new.models ≡ self.old.models }
         ensures seen { self.new.seat.view.seen ≡ self.old.seat.view.seen }
         ensures asked { IsAskedTimes 0 self.old.solver.log self.new.solver.log }
         ensures heard { OnOk result (HasHeardOne self.old self.new var) }
+        ensures taken { OnOk result (HasTaken self.old self.new) }
     {
         let lit = self.phase_literal(var);
         if self.solver.is_root(lit) {
@@ -128,11 +133,12 @@ impl<'f, 'r> Post<'f, 'r> {
         requires unknown { HasUnit self.old.solver.log lit → ⊥ }
         ensures post { IsPost self.new }
         ensures sits { Sits words.now self.new.seat }
-        ensures onward { IsOnward self.old self.new }
+        ensures hearing { IsHearing self.old self.new }
         ensures models { self.new.models ≡ self.old.models }
         ensures seen { self.new.seat.view.seen ≡ self.old.seat.view.seen }
         ensures asked { IsAskedTimes 0 self.old.solver.log self.new.solver.log }
         ensures heard { OnOk result (HasHeardOne self.old self.new lit.var) }
+        ensures taken { OnOk result (HasTaken self.old self.new) }
     {
         let Some(stamp) = origin(words, &mut self.seat, lit.var()) else {
             return Ok(());

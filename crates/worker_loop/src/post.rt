@@ -1,9 +1,11 @@
+ghost use Rattle.std.specs.Prelude.{◌≡◌};
 ghost use Rattle.worker_loop.specs.Steps.Held.{state_of};
 ghost use Rattle.worker_loop.specs.Steps.Handing.{HasHandedIn};
 
 use crate::{End, Findings, Question};
 use assumption_solver::Solver;
 use candidate_words::Seat;
+use chooser_core::Chooser;
 use cnf_core::Lit;
 use flip_literals::{Marks, Walker};
 use model_store::{ModelStore, Witness};
@@ -34,9 +36,10 @@ pub(crate) struct Post<'f, 'r> {
 }
 
 impl<'f, 'r> Post<'f, 'r> {
-    /// What it hands in.
-    pub fn findings(self, worker: u32, decisions: u64, end: End) -> Findings<'f>
-        ensures { HasHandedIn (state_of self.entry) worker end result }
+    /// What it hands in, with how often the chooser was asked until now.
+    pub fn findings(self, worker: u32, chooser: &Box<dyn Chooser>, end: End) -> Findings<'f>
+        ensures handed { HasHandedIn (state_of self.entry) worker end result }
+        ensures decisions { result.decisions ≡ asks chooser.now }
     {
         Findings {
             worker,
@@ -45,7 +48,7 @@ impl<'f, 'r> Post<'f, 'r> {
             fixes: self.fixes,
             models: self.models,
             log: self.solver.into_log(),
-            decisions,
+            decisions: chooser.asked(),
             end,
         }
     }

@@ -17,6 +17,9 @@ use std::alloc::Global;
 use std::boxed::Box;
 use std::test::Fail;
 
+mod drawn;
+mod turns;
+
 /// More learnt clauses than any worker here needs.
 const ENOUGH: u64 = 1_000;
 
@@ -175,6 +178,35 @@ fn literals_of_a_core_are_fixed_together(rt: HostRuntime) -> Result<(), Fail> {
     assert_eq!(rt; fixed.as_slice(), [1, 2].as_slice());
     assert_eq!(rt; (findings.end, findings.drops.len()), (End::Done, 2));
     assert_eq!(rt; longest_core(&findings.log), 2);
+    Ok(())
+}
+
+/// What a worker alone fixes, in order, with all phases true, and how many literals its longest core has.
+fn row(alloc: Global, vars: u32, numbers: &[i32]) -> Result<(Vec<i32>, u64), Fail> {
+    let formula = Formula::of_numbers(alloc, vars, numbers)?;
+    let findings = run_alone(alloc, &formula, u32::MAX, ENOUGH)?;
+    let mut fixed = fixes(alloc, &findings)?;
+    fixed.sort_unstable();
+    Ok((fixed, longest_core(&findings.log)))
+}
+
+#[test]
+fn what_units_show_is_fixed(rt: HostRuntime) -> Result<(), Fail> {
+    let alloc = rt.alloc();
+    let (chain, core) = row(alloc, 3, &[1, 0, -1, 2, 0, 2, 3, 0])?;
+    assert_eq!(rt; chain.as_slice(), [1, 2].as_slice());
+    assert_eq!(rt; core, 0);
+    let (lead, core) = row(alloc, 2, &[1, 2, 0, 1, -2, 0])?;
+    assert_eq!(rt; lead.as_slice(), [1].as_slice());
+    assert_eq!(rt; core, 0);
+    Ok(())
+}
+
+#[test]
+fn a_core_of_two_that_a_model_splits_is_dropped(rt: HostRuntime) -> Result<(), Fail> {
+    let alloc = rt.alloc();
+    let (fixed, core) = row(alloc, 2, &[1, 2, 0])?;
+    assert_eq!(rt; (fixed.len(), core), (0, 2));
     Ok(())
 }
 

@@ -7,6 +7,7 @@ ghost use Rattle.core_chunks.specs.Chunks.{IsBlockOf};
 ghost use Rattle.worker_loop.specs.Posts.{IsLater, HasStored};
 ghost use Rattle.worker_loop.specs.Steps.Held.{IsPost, state_of, IsBetweenTurns};
 ghost use Rattle.worker_loop.specs.Steps.Moves.{IsLoaded, IsOnward, IsAskedTimes, against_phase, IsDropped, IsUnmoved, KeepsSettled, IsBlockOfAll};
+ghost use Rattle.worker_loop.specs.Turns.{Goes};
 ghost use Rattle.worker_loop.specs.Steps.Following.{Follows, PostSays, IsCoreOf};
 ghost use Rattle.worker_loop.specs.declared.endings.TurnEnd.{TurnEnd};
 
@@ -190,9 +191,50 @@ impl<'f, 'r> Post<'f, 'r> {
         ensures settled { OnOk result (KeepsSettled self.old self.new) }
     {
         if core.len() == 1 {
-            self.fix_all(words, core);
+            self.fix_core(words, core);
             return Ok(TurnEnd::Going);
         }
+        self.split_core(words, core, chooser)
+    }
+
+    /// Fixes the one literal of a core.
+    fn fix_core(&mut self, words: &Words, core: &[Lit])
+        requires post { IsPost self.old }
+        requires sits { Sits words.now self.old.seat }
+        requires copied { IsLoaded self.old }
+        requires core { IsCoreOf self.old core.now }
+        requires one { length core.now ≡ 1 }
+        ensures post { IsPost self.new }
+        ensures sits { Sits words.now self.new.seat }
+        ensures onward { IsOnward self.old self.new }
+        ensures models { self.new.models ≡ self.old.models }
+        ensures solver { self.new.solver ≡ self.old.solver }
+        ensures goes { Goes (state_of self.new) }
+        ensures settled { KeepsSettled self.old self.new }
+    {
+        self.fix_all(words, core);
+    }
+
+    /// Asks for a model in which some literal of a core is false, and fixes all of them where there is none.
+    fn split_core(
+        &mut self,
+        words: &Words,
+        core: &[Lit],
+        chooser: &mut Box<dyn Chooser>,
+    ) -> Result<TurnEnd, NoMemory>
+        requires post { IsPost self.old }
+        requires sits { Sits words.now self.old.seat }
+        requires copied { IsLoaded self.old }
+        requires core { IsCoreOf self.old core.now }
+        requires room { length self.old.models.models < 2 ^ 26 }
+        ensures post { IsPost self.new }
+        ensures sits { Sits words.now self.new.seat }
+        ensures onward { IsOnward self.old self.new }
+        ensures asked { IsAskedTimes 1 self.old.solver.log self.new.solver.log }
+        ensures stored { HasStored self.old.models self.new.models }
+        ensures follows { IfOk result (λ end. Follows end self.new) }
+        ensures settled { OnOk result (KeepsSettled self.old self.new) }
+    {
         prefer_against(&mut self.solver, core);
         match self.ask(words, &[], core, chooser) {
             Asked::Closed => Ok(TurnEnd::Going),

@@ -181,6 +181,6 @@ impl<'f, 'r> Worker<'f, 'r> {
             chooser,
             failed: _,
         } = self;
-        post.findings(number, chooser.asked(), end)
+        post.findings(number, &chooser, end)
     }
 }

@@ -56,6 +56,10 @@ pub record AreFree (p : Post) (m : Assignment) (g kept mask : ℕ) : Type 0 wher
   pub rest : (i : ℕ) → i < 32 → bit_at kept i ≡ 1 → open_at p.loaded.items (var_at g i) ≡ 1 → bit_at mask i ≡ 0
       → IsModel p.question.now.formula (flipped m (var_at g i)) → ⊥
 
+-- the model at a place, as it stands or flipped
+abbrev pub source_at : ℕ → Bool → Source
+source_at place flip = record { model = place; flip = flip }
+
 -- the witness that a source gives a variable
 abbrev pub witness_of : Source → ℕ → Witness
 witness_of source x = record { var = x; model = source.model; flip = source.flip }

@@ -15,14 +15,31 @@ use Rattle.core_chunks.specs.Chunks.{IsBlockOf}
 use Rattle.worker_loop.specs.declared.post.Post.{Post}
 use Rattle.worker_loop.specs.Posts.{PostState, IsLonger}
 use Rattle.worker_loop.specs.Evidence.{IsSettled}
+use Rattle.worker_loop.specs.Turns.{AreTaken}
 use Rattle.worker_loop.specs.Steps.Held.{IsPost}
 
 -- the copy of the words has what the view has loaded
 abbrev pub IsLoaded : Post → Type 0
 IsLoaded p = p.loaded.items ≡ p.seat.view.loaded
 
--- a step after the loads: nothing is loaded, what is seen is no earlier, the log only grew
+-- a step after what the others fixed was heard: nothing is loaded or imported, what is seen is no earlier, the log only grew
 pub record IsOnward (p q : Post) : Type 0 where
+  pub question : q.question.now ≡ p.question.now
+  pub table : q.seat.table ≡ p.seat.table
+  pub number : q.seat.view.number ≡ p.seat.view.number
+  pub next : q.seat.view.next ≡ p.seat.view.next
+  pub out : q.seat.view.out ≡ p.seat.view.out
+  pub loaded : q.seat.view.loaded ≡ p.seat.view.loaded
+  pub loads : q.seat.view.loads ≡ p.seat.view.loads
+  pub copy : q.loaded.items ≡ p.loaded.items
+  pub seen : AreEarlier (groups p.question.now.formula.vars) p.seat.view.seen q.seat.view.seen
+  pub looks : (x : ℕ) → slice_index p.seat.view.looks x ≤ slice_index q.seat.view.looks x
+  pub imports : q.seat.view.imports ≡ p.seat.view.imports
+  pub log : IsLonger p.solver.log q.solver.log
+  pub budget : q.budget ≡ p.budget
+
+-- a step after the loads, which may import, also where memory for what was imported was wanting
+pub record IsHearing (p q : Post) : Type 0 where
   pub question : q.question.now ≡ p.question.now
   pub table : q.seat.table ≡ p.seat.table
   pub number : q.seat.view.number ≡ p.seat.view.number
@@ -44,6 +61,7 @@ pub record HasLoadedAll (p q : Post) : Type 0 where
   pub next : q.seat.view.next ≡ p.seat.view.next
   pub out : q.seat.view.out ≡ p.seat.view.out
   pub looks : q.seat.view.looks ≡ p.seat.view.looks
+  pub imports : q.seat.view.imports ≡ p.seat.view.imports
   pub solver : q.solver ≡ p.solver
   pub models : q.models ≡ p.models
   pub drops : q.drops ≡ p.drops
@@ -62,6 +80,10 @@ HasHeardOne p q x = HasUnit q.solver.log (true_literal p.question.now.phases x)
 abbrev pub HasHeard : Post → Post → Type 0
 HasHeard p q = (x : ℕ) → 0 < x → x ≤ p.question.now.formula.vars → fixed p.loaded.items x ≡ 1
     → HasHeardOne p q x
+
+-- each origin that was found since is a root unit
+abbrev pub HasTaken : Post → Post → Type 0
+HasTaken p q = AreTaken p.question.now p.seat.view q.seat.view q.solver.log
 
 -- at most so many queries more have learnt something, and none where nothing was learnt
 pub record IsAskedTimes (k : ℕ) (old new : Recorded) : Type 0 where
@@ -100,7 +122,7 @@ HasHeardIn p q g = (i : ℕ) → i < 32 → fixed p.loaded.items (suc (32 * g + 
 pub record HasListened (b : Board) (p q : Post) : Type 0 where
   pub post : IsPost q
   pub sits : Sits b q.seat
-  pub onward : IsOnward p q
+  pub hearing : IsHearing p q
   pub models : q.models ≡ p.models
   pub seen : q.seat.view.seen ≡ p.seat.view.seen
   pub asked : IsAskedTimes 0 p.solver.log q.solver.log

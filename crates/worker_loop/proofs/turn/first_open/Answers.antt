@@ -1,7 +1,6 @@
-use Rattle.std.proofs.Common.{◌≡◌, ℕ, ◌<◌, ◌≤◌, List, sym, subst, arith}
+use Rattle.std.proofs.Common.{ℕ, List, sym, subst, arith}
 use Rattle.std.proofs.lemmas.Result.{IfOk-weaker}
-use Rattle.board_core.specs.Words.{open_at}
-use Rattle.core_chunks.specs.Chunks.{block_of, IsBlockOf}
+use Rattle.core_chunks.specs.Chunks.{block_of}
 use Rattle.core_chunks.proofs.Counts.{block_is_open}
 use Rattle.worker_loop.specs.Steps.Moves.{IsBlockOfAll}
 use Rattle.worker_loop.proofs.turn.first_open.Goals as goal

@@ -8,7 +8,9 @@ use Rattle.board_core.specs.Words.{open_at}
 use Rattle.model_check.specs.Flips.{flipped}
 use Rattle.model_store.specs.Stores.{Store}
 use Rattle.worker_loop.specs.Steps.Moves.{IsClosed}
-use Rattle.worker_loop.specs.Steps.Dropping.{var_at, IsKept, IsStoredAt}
+use Rattle.worker_loop.specs.declared.dropping.Source.{Source}
+use Rattle.worker_loop.specs.Evidence.{IsWitness}
+use Rattle.worker_loop.specs.Steps.Dropping.{var_at, witness_of, IsKept, IsStoredAt}
 use Rattle.worker_loop.proofs.Tried.{word_at, open_bit_at, open_bit_candidate, stays_closed, by_bits, kept_open, kept_on, witness_by_value, witness_by_flip}
 use Rattle.worker_loop.proofs.post.Post.drop_in.Goals as goal
 
@@ -35,8 +37,10 @@ drop_mask-requires-clause-mask c = λ i within on.
     c.index.result.now c.open_bits-open.result i c.requires.post.view.loaded c.requires.copied c.index.ensures (omega arith)
     c.open_bits-open.ensures c.requires.group within here.0 in (
       is,
-      witness_by_value c.args.self.now.question.now c.args.self.now.models c.args.place c.args.model.now (var_at c.args.group i)
-          c.requires.post.told.store c.requires.stored c.requires.model is here.1,
+      subst (λ (s : Source). IsWitness c.args.self.now.question.now c.args.self.now.models (witness_of s (var_at c.args.group i)))
+          (sym c.of.ensures)
+          (witness_by_value c.args.self.now.question.now c.args.self.now.models c.args.place c.args.model.now (var_at c.args.group i)
+          c.requires.post.told.store c.requires.stored c.requires.model is here.1),
     )
 
 pub free_bits-free-requires-clause-kept : goal.free_bits-free-requires-clause-kept
@@ -71,8 +75,10 @@ drop_mask-requires-2-clause-mask c = λ i within on.
     let model : IsModel c.drop_mask.new.self.question.now.formula c.args.model.now =
     subst (λ (a : About). IsModel a.formula c.args.model.now) (sym c.drop_mask.ensures.onward.question) c.requires.model in (
       is,
-      witness_by_flip c.drop_mask.new.self.question.now c.drop_mask.new.self.models c.args.place c.args.model.now (var_at c.args.group i)
-          c.drop_mask.ensures.post.told.store stored model here.1 is same,
+      subst (λ (s : Source). IsWitness c.drop_mask.new.self.question.now c.drop_mask.new.self.models (witness_of s (var_at c.args.group i)))
+          (sym c.of-2.ensures)
+          (witness_by_flip c.drop_mask.new.self.question.now c.drop_mask.new.self.models c.args.place c.args.model.now (var_at c.args.group i)
+          c.drop_mask.ensures.post.told.store stored model here.1 is same),
     )
 
 pub returns-clause-dropped : goal.returns-clause-dropped

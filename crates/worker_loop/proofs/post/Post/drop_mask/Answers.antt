@@ -5,7 +5,8 @@ use Rattle.std.proofs.lemmas.List.{append-nil}
 use Rattle.board_core.specs.Subjects.{About}
 use Rattle.board_core.specs.Rules.{IsView, IsOnce}
 use Rattle.candidate_words.specs.Seats.{Sitter}
-use Rattle.worker_loop.proofs.Dropped.{same_about, each_opposed, room_for, told_dropped, won_of_mask, clocked_dropped, seen_later, bit_closed}
+use Rattle.worker_loop.proofs.Imports.{same_about}
+use Rattle.worker_loop.proofs.Dropped.{each_opposed, room_for, told_dropped, won_of_mask, clocked_dropped, seen_later, bit_closed}
 use Rattle.worker_loop.proofs.post.Post.drop_mask.Goals as goal
 
 pub drop_bits-won-requires-clause-mask : goal.drop_bits-won-requires-clause-mask
@@ -74,6 +75,7 @@ returns-clause-onward c =
       looks = λ x.
           let here = ap (λ (u : Sitter). slice_index u.view.looks x) seat in
           omega (arith, here);
+      imports = ap (λ (u : Sitter). u.view.imports) seat;
       log = record { formula = refl; more = []; entries = sym (append-nil c.args.self.now.solver.log.entries) };
       budget = refl;
     }

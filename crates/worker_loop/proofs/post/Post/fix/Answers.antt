@@ -12,7 +12,8 @@ use Rattle.board_core.specs.Words.{open_at}
 use Rattle.board_core.specs.Rules.{IsView, IsOnce, AreEarlier}
 use Rattle.candidate_words.specs.Seats.{Sitter, with_view}
 use Rattle.worker_loop.proofs.Onward.{longer_refl}
-use Rattle.worker_loop.proofs.Dropped.{same_about, clocked_same}
+use Rattle.worker_loop.proofs.Imports.{same_about}
+use Rattle.worker_loop.proofs.Dropped.{clocked_same}
 use Rattle.worker_loop.proofs.Fixed.{group_low, each_entailed, fixes_none, fixes_one, room_for_fix, may_publish, not_imported, published_one, clocked_published, told_fixed, told_same, seen_fixed, fixed_closed}
 use Rattle.worker_loop.proofs.post.Post.fix.Goals as goal
 
@@ -51,8 +52,8 @@ push_reserved-requires c =
     (vec_capacity c.args.self.now.fixes) c.args.self.now.fixes.items list once c.requires.post.told.fixes_are c.requires.post.rooms.fixes in
     omega (arith, room, c.args.self.now.fixes.ok)
 
-pub publish-requires-clause-publishes : goal.publish-requires-clause-publishes
-publish-requires-clause-publishes c =
+pub publish_next-requires-clause-publishes : goal.publish_next-requires-clause-publishes
+publish_next-requires-clause-publishes c =
     let same = same_about c.args.words.now c.args.self.now.question.now c.args.self.now.seat c.requires.sits c.requires.post.view in
     let var = c.var-var.ensures.value in
     let group : c.group_of.result ≡ (c.args.lit.var - 1) / 32 = c.group_of.ensures ∙ ap (λ (x : ℕ). (x - 1) / 32) var in
@@ -63,10 +64,10 @@ publish-requires-clause-publishes c =
     c.fix_bits-won.ensures.fixed low group mask c.if-won-ne0.true in
     let once : IsOnce c.args.self.now.question.now c.fix_bits-won.new.seat.view =
     subst (λ (a : About). IsOnce a c.fix_bits-won.new.seat.view) same c.fix_bits-won.ensures.once in
-    subst (λ (x : ℕ). MayPublish c.fix_bits-won.new.seat.view x (c.clock-stamp.result + 1)) (sym var)
+    subst (λ (x : ℕ). MayPublish c.fix_bits-won.new.seat.view x (c.log-then-won-ne0.result.now.clock + 1)) (sym var)
     (may_publish c.args.self.now.question.now c.args.self.now.seat c.fix_bits-won.new.seat c.args.self.now.solver.log
-    c.group_of.result c.bit_of.result c.fix_bits-won.result c.args.lit.var c.clock-stamp.result c.fix_bits-won.ensures.fixed
-    list once c.requires.post.clocked (c.clock-stamp.ensures ∙ ap (λ (L : Recorded). L.clock) c.log-then-won-ne0.ensures))
+    c.group_of.result c.bit_of.result c.fix_bits-won.result c.args.lit.var c.log-then-won-ne0.result.now.clock c.fix_bits-won.ensures.fixed
+    list once c.requires.post.clocked (ap (λ (L : Recorded). L.clock) c.log-then-won-ne0.ensures))
 
 pub returns-then-won-ne0-clause-post : goal.returns-then-won-ne0-clause-post
 returns-then-won-ne0-clause-post c =
@@ -80,12 +81,12 @@ returns-then-won-ne0-clause-post c =
     c.fix_bits-won.ensures.fixed low group mask c.if-won-ne0.true in
     let s = c.args.self.now.seat in
     let t = c.fix_bits-won.new.seat in
-    let u = c.publish.new.seat in
+    let u = c.publish_next.new.seat in
     let seat = c.fix_bits-won.ensures.fixed.seat in
-    let stamp : c.clock-stamp.result + 1 ≡ c.args.self.now.solver.log.clock + 1 =
-    ap (λ (k : ℕ). k + 1) (c.clock-stamp.ensures ∙ ap (λ (L : Recorded). L.clock) c.log-then-won-ne0.ensures) in
+    let stamp : c.log-then-won-ne0.result.now.clock + 1 ≡ c.args.self.now.solver.log.clock + 1 =
+    ap (λ (k : ℕ). k + 1) (ap (λ (L : Recorded). L.clock) c.log-then-won-ne0.ensures) in
     let published : u ≡ with_view t (publish_view c.args.lit.var (c.args.self.now.solver.log.clock + 1) t.view) =
-    c.publish.ensures.published ∙ ap (λ (x : ℕ). with_view t (publish_view x (c.clock-stamp.result + 1) t.view)) var
+    c.publish_next.ensures.published ∙ ap (λ (x : ℕ). with_view t (publish_view x (c.log-then-won-ne0.result.now.clock + 1) t.view)) var
     ∙ ap (λ (k : ℕ). with_view t (publish_view c.args.lit.var k t.view)) stamp in
     let fixes : u.view.fixes ≡ s.view.fixes ++ c.args.lit.var ∷ [] = ap (λ (r : Sitter). r.view.fixes) published ∙ list in
     let own =
@@ -98,8 +99,8 @@ returns-then-won-ne0-clause-post c =
       some = c.requires.post.some;
       limit = c.requires.post.limit;
       is_model = c.requires.post.is_model;
-      view = subst (λ (a : About). IsView a c.publish.new.seat.view) same c.publish.ensures.sits.view;
-      once = subst (λ (a : About). IsOnce a c.publish.new.seat.view) same c.publish.ensures.once;
+      view = subst (λ (a : About). IsView a c.publish_next.new.seat.view) same c.publish_next.ensures.sits.view;
+      once = subst (λ (a : About). IsOnce a c.publish_next.new.seat.view) same c.publish_next.ensures.once;
       told = told_fixed c.args.self.now.question.now s.view u.view c.args.self.now.models c.args.self.now.solver.log
           c.args.self.now.drops.items c.args.self.now.fixes.items c.push_reserved.new.self.items c.args.lit
           (ap (λ (r : Sitter). r.view.drops) published ∙ ap (λ (r : Sitter). r.view.drops) seat) fixes c.push_reserved.ensures.items
@@ -140,7 +141,7 @@ returns-then-won-ne0-clause-onward c =
     let inside = group_low c.args.self.now.question.now.formula c.args.lit.var c.group_of.result c.requires.shown group in
     let later = seen_fixed c.args.self.now.question.now c.args.self.now.seat c.fix_bits-won.new.seat c.group_of.result c.bit_of.result
     c.fix_bits-won.result c.fix_bits-won.ensures.fixed c.requires.post.view inside in
-    let published = c.publish.ensures.published in
+    let published = c.publish_next.ensures.published in
     let seat = c.fix_bits-won.ensures.fixed.seat in
     record {
       question = refl;
@@ -158,6 +159,7 @@ returns-then-won-ne0-clause-onward c =
         ap (λ (u : Sitter). slice_index u.view.looks x) published,
         ap (λ (u : Sitter). slice_index u.view.looks x) seat,
       );
+      imports = ap (λ (u : Sitter). u.view.imports) published ∙ ap (λ (u : Sitter). u.view.imports) seat;
       log = longer_refl c.args.self.now.solver.log;
       budget = refl;
     }
@@ -171,7 +173,7 @@ returns-then-won-ne0-clause-closed c =
     let range = c.var-var.ensures.range in
     let low : 0 < c.args.lit.var = omega (arith, range.0, var) in
     let inside = group_low c.args.self.now.question.now.formula c.args.lit.var c.group_of.result c.requires.shown group in
-    subst (λ (ws : List ℕ). open_at ws c.args.lit.var ≡ 0) (sym (ap (λ (u : Sitter). u.view.seen) c.publish.ensures.published))
+    subst (λ (ws : List ℕ). open_at ws c.args.lit.var ≡ 0) (sym (ap (λ (u : Sitter). u.view.seen) c.publish_next.ensures.published))
     (fixed_closed c.args.self.now.question.now c.args.self.now.seat c.fix_bits-won.new.seat c.args.lit.var c.group_of.result c.bit_of.result
     c.fix_bits-won.result c.fix_bits-won.ensures.fixed c.requires.post.view inside low group mask)
 
@@ -227,6 +229,7 @@ returns-else-won-ne0-clause-onward c =
       seen = seen_fixed c.args.self.now.question.now c.args.self.now.seat c.fix_bits-won.new.seat c.group_of.result c.bit_of.result
           c.fix_bits-won.result c.fix_bits-won.ensures.fixed c.requires.post.view inside;
       looks = λ x. omega (arith, ap (λ (u : Sitter). slice_index u.view.looks x) seat);
+      imports = ap (λ (u : Sitter). u.view.imports) seat;
       log = longer_refl c.args.self.now.solver.log;
       budget = refl;
     }

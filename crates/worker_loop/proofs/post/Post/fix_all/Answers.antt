@@ -1,8 +1,7 @@
-use Rattle.std.proofs.Common.{◌≡◌, ◌≤◌, ℕ, sym, subst, ap, arith}
+use Rattle.std.proofs.Common.{◌≡◌, ◌≤◌, sym, subst, arith}
 use Rattle.std.specs.Prelude.{All}
 use Rattle.std.proofs.lemmas.List.Elements.{All-weaker}
 use Rattle.cnf_core.specs.Literals.{Literal}
-use Rattle.lrat_log.specs.Entries.{Recorded}
 use Rattle.assumption_solver.specs.SolverStates.{SolverState}
 use Rattle.board_core.specs.Subjects.{About, candidate}
 use Rattle.board_core.proofs.Ends.{candidate_within}

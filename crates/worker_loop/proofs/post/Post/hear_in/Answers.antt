@@ -32,5 +32,5 @@ returns-clause-heard c =
     (unknown_read p c.args.group mask c.index.result.now c.index-2.result.now c.requires.post c.requires.group c.index.ensures
     c.index-2.ensures
     c.fixed_unknown-unknown.ensures)
-    c.hear_group.ensures.listened.onward.log)
+    c.hear_group.ensures.listened.hearing.log)
     c.hear_group.ensures.heard

@@ -4,7 +4,8 @@ use Rattle.board_core.specs.Subjects.{About, groups}
 use Rattle.board_core.specs.Rules.{IsView, IsOnce}
 use Rattle.candidate_words.specs.Seats.{Sitter}
 use Rattle.worker_loop.proofs.Onward.{longer_refl}
-use Rattle.worker_loop.proofs.Dropped.{same_about, clocked_same}
+use Rattle.worker_loop.proofs.Imports.{same_about}
+use Rattle.worker_loop.proofs.Dropped.{clocked_same}
 use Rattle.worker_loop.proofs.Fixed.{told_same}
 use Rattle.worker_loop.proofs.Refreshed.{drops_refreshed, seen_refreshed, refreshed_closed}
 use Rattle.worker_loop.proofs.post.Post.is_open_now.Goals as goal
@@ -67,6 +68,7 @@ returns-clause-onward c =
           c.refresh-word.result
           c.refresh-word.ensures.refreshed c.requires.post.view (omega arith);
       looks = λ x. omega (arith, ap (λ (u : Sitter). slice_index u.view.looks x) seat);
+      imports = ap (λ (u : Sitter). u.view.imports) seat;
       log = longer_refl c.args.self.now.solver.log;
       budget = refl;
     }

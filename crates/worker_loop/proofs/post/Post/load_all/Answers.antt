@@ -1,4 +1,4 @@
-use Rattle.std.proofs.Common.{◌≡◌, ℕ, ◌<◌, ◌≤◌, arith}
+use Rattle.std.proofs.Common.{arith}
 use Rattle.worker_loop.proofs.Loads.{load_next, all_copied, all_loaded}
 use Rattle.worker_loop.proofs.post.Post.load_all.Goals as goal
 

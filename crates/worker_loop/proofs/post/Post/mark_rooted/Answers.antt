@@ -1,5 +1,3 @@
-use Rattle.std.proofs.Common.{◌≡◌, ℕ, ◌-◌, ◌/◌, ◌%◌, ◌^◌, List, length, refl, sym, ap, ◌∙◌, arith}
-use Rattle.std.proofs.lemmas.List.{length-set}
 use Rattle.worker_loop.proofs.Marked.{post_marked}
 use Rattle.worker_loop.proofs.post.Post.mark_rooted.Goals as goal
 

@@ -1,7 +1,5 @@
-use Rattle.std.proofs.Common.{◌≡◌, ℕ, ◌<◌, ◌≤◌, List, sym, subst}
+use Rattle.std.proofs.Common.{ℕ, ◌<◌, ◌≤◌, List, sym, subst}
 use Rattle.std.specs.Prelude.{All}
-use Rattle.std.proofs.lemmas.Result.{IfOk-at_ok}
-use Rattle.core_chunks.specs.Chunks.{IsBlockOf}
 use Rattle.worker_loop.proofs.Words.{block_within}
 use Rattle.worker_loop.proofs.post.Post.prefer.Goals as goal
 

@@ -1,4 +1,4 @@
-use Rattle.std.proofs.Common.{◌≡◌, ℕ, ◌<◌, ◌≤◌, List, sym, subst, arith}
+use Rattle.std.proofs.Common.{ℕ, ◌<◌, ◌≤◌, List, sym, subst, arith}
 use Rattle.std.specs.Prelude.{All}
 use Rattle.core_chunks.specs.Chunks.{IsBlockOf}
 use Rattle.flip_literals.specs.Walks.{IsAtRest}

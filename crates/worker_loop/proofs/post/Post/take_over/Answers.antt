@@ -1,9 +1,14 @@
-use Rattle.std.proofs.Common.{◌≡◌, ℕ, ◌≤◌, refl, sym, ap, ◌∙◌, subst}
+use Rattle.std.proofs.Common.{ℕ, ◌≤◌, refl, sym, ap, ◌∙◌, subst}
 use Rattle.cnf_core.specs.Literals.{Literal}
-use Rattle.cnf_core.specs.Formulas.{Cnf, models, true_literal}
+use Rattle.cnf_core.specs.Formulas.{models, true_literal}
 use Rattle.lrat_log.specs.Entries.{with_import}
+use Rattle.std.specs.Prelude.{Some}
 use Rattle.board_core.specs.Subjects.{About}
-use Rattle.worker_loop.proofs.Imports.{same_about, post_moved, moved_asked, moved_import}
+use Rattle.candidate_words.specs.Seats.{Sitter}
+use Rattle.shared_fixed.specs.Stamps.{HasAskedStamp}
+use Rattle.assumption_solver.specs.SolverStates.{SolverState}
+use Rattle.assumption_solver.specs.Units.{HasUnit}
+use Rattle.worker_loop.proofs.Imports.{same_about, post_moved, moved_asked, moved_import, taken_one}
 use Rattle.worker_loop.proofs.Marked.{has_models, entailed_of, shown_import}
 use Rattle.worker_loop.proofs.post.Post.take_over.Goals as goal
 
@@ -47,3 +52,15 @@ mark_rooted-requires-clause-shown c =
     shown_import p.solver.log c.add_unit.new.self.log c.args.lit (true_literal p.question.now.phases c.var-2.result) c.in-Some.stamp
     (c.in_ok-add_unit.ensures.added c.requires.unknown)
     (c.requires.phase ∙ ap (λ (x : ℕ). true_literal p.question.now.phases x) (sym c.var-2.ensures.value))
+
+pub returns-clause-taken : goal.returns-clause-taken
+returns-clause-taken c =
+    let p = c.args.self.now in
+    let x = c.var.result in
+    let same = c.mark_rooted.ensures.same in
+    taken_one p c.mark_rooted.new.self x c.in-Some.stamp
+    (subst (λ (t : Sitter). HasAskedStamp p.seat x (Some c.in-Some.stamp) t) (sym same.seat) c.in-Some.ensures.asked)
+    (subst (λ (s : SolverState). HasUnit s.log (true_literal p.question.now.phases x)) (sym same.solver)
+    (shown_import p.solver.log c.add_unit.new.self.log c.args.lit (true_literal p.question.now.phases x) c.in-Some.stamp
+    (c.in_ok-add_unit.ensures.added c.requires.unknown)
+    (c.requires.phase ∙ ap (λ (y : ℕ). true_literal p.question.now.phases y) (sym c.var.ensures.value))))

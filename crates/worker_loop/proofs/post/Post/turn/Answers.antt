@@ -18,7 +18,7 @@ returns-clause-later g c =
     let some : 0 < length c.in_ok-block.block.items = search rules in
     let turned = has_turned c.args.self.now c.load_all.new.self c.begin_behind.new.self c.hear.new.self c.work.new.self c.in_ok-block.block.items
     c.load_all.ensures.loaded c.load_all.ensures.copied c.load_all.ensures.post c.begin_behind.ensures.same c.begin_behind.ensures.post
-    c.hear.ensures.onward c.in_ok-hear.ensures.heard c.hear.ensures.asked c.hear.ensures.models c.hear.ensures.post
+    c.hear.ensures.hearing c.in_ok-hear.ensures.heard c.in_ok-hear.ensures.taken c.hear.ensures.asked c.hear.ensures.models c.hear.ensures.post
     c.work.ensures.onward c.work.ensures.asked c.work.ensures.post c.in_ok-block.ensures some in
     turn_later c.args.self.now c.load_all.new.self c.begin_behind.new.self c.hear.new.self c.work.new.self turned
 
@@ -27,7 +27,7 @@ returns-clause-says g c =
     let some : 0 < length c.in_ok-block.block.items = search rules in
     let turned = has_turned c.args.self.now c.load_all.new.self c.begin_behind.new.self c.hear.new.self c.work.new.self c.in_ok-block.block.items
     c.load_all.ensures.loaded c.load_all.ensures.copied c.load_all.ensures.post c.begin_behind.ensures.same c.begin_behind.ensures.post
-    c.hear.ensures.onward c.in_ok-hear.ensures.heard c.hear.ensures.asked c.hear.ensures.models c.hear.ensures.post
+    c.hear.ensures.hearing c.in_ok-hear.ensures.heard c.in_ok-hear.ensures.taken c.hear.ensures.asked c.hear.ensures.models c.hear.ensures.post
     c.work.ensures.onward c.work.ensures.asked c.work.ensures.post c.in_ok-block.ensures some in
     turn_says c.args.self.now c.load_all.new.self c.begin_behind.new.self c.hear.new.self c.work.new.self c.work.result turned c.work.ensures.follows
 
@@ -36,6 +36,6 @@ returns-clause-between g c =
     let some : 0 < length c.in_ok-block.block.items = search rules in
     let turned = has_turned c.args.self.now c.load_all.new.self c.begin_behind.new.self c.hear.new.self c.work.new.self c.in_ok-block.block.items
     c.load_all.ensures.loaded c.load_all.ensures.copied c.load_all.ensures.post c.begin_behind.ensures.same c.begin_behind.ensures.post
-    c.hear.ensures.onward c.in_ok-hear.ensures.heard c.hear.ensures.asked c.hear.ensures.models c.hear.ensures.post
+    c.hear.ensures.hearing c.in_ok-hear.ensures.heard c.in_ok-hear.ensures.taken c.hear.ensures.asked c.hear.ensures.models c.hear.ensures.post
     c.work.ensures.onward c.work.ensures.asked c.work.ensures.post c.in_ok-block.ensures some in
     turn_between c.args.self.now c.load_all.new.self c.begin_behind.new.self c.hear.new.self c.work.new.self c.work.result turned c.work.ensures.follows c.work.ensures.settled

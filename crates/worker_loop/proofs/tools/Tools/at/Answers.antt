@@ -1,4 +1,4 @@
-use Rattle.std.proofs.Common.{◌≡◌, ℕ, ◌+◌, ◌*◌, ◌/◌, ◌<◌, ◌≤◌, refl, sym, ap, ◌∙◌, subst, arith}
+use Rattle.std.proofs.Common.{◌≡◌, ◌*◌, ◌/◌, ◌<◌, ap, ◌∙◌, arith}
 use Rattle.board_core.specs.Subjects.{groups}
 use Rattle.model_store.specs.Stores.{Store}
 use Rattle.worker_loop.proofs.Started.{started, share_within}
