@@ -1,5 +1,5 @@
 //! What is written of the outcome of a run: first the proof, then the witness, then the answer.
-ghost use Rattle.std.specs.Prelude.{◌≡◌, ℕ, ◌≤◌, IfOk, IfErr, OnOk, OnErr, IfSome, IsNone, is_some, All, Option};
+ghost use Rattle.std.specs.Prelude.{◌≡◌, ℕ, ◌≤◌, IfOk, IfErr, OnOk, OnErr, IfSome, IsSome, IsNone, is_some, All, Option};
 ghost use Rattle.std.specs.Bool.{then_some};
 ghost use Rattle.bone_desk.specs.Told.{Told, Rose, WritesOnly, Gave};
 ghost use Rattle.bone_desk.specs.Gives.{GaveFront};
@@ -9,11 +9,11 @@ ghost use Rattle.lrat_lines.specs.Writings.{HasCause};
 ghost use Rattle.answer_text.specs.AnswerText.{IsInOrder};
 ghost use Rattle.run_core.specs.Outcomes.{OutcomeSays, IsComplete, IsRefuted, IsUnfinished};
 ghost use Rattle.bone_words.specs.Settings.{Wanted};
-ghost use Rattle.backbone_main.specs.Words.{IsBuilt, files_of, uses};
+ghost use Rattle.backbone_main.specs.Words.{IsBuilt, files_of};
 ghost use Rattle.backbone_main.specs.Texts.{Texts, TellsBackbone, TellsNoModel, TellsPart, TextsSay};
 ghost use Rattle.backbone_main.specs.Outcome.{IsCutAt, StopsWhere};
 ghost use Rattle.backbone_main.specs.Steps.Replies.{IsWritable, HoldsDrops, IsKeptDrops, proof_text_of, drops_text_of, texts_of};
-ghost use Rattle.backbone_main.specs.Steps.Replies.{EndsWriting, Finishes, HasEnded};
+ghost use Rattle.backbone_main.specs.Steps.Replies.{EndsWriting, Finishes, HasEnded, IsWantedReply};
 ghost use Rattle.backbone_main.specs.Steps.Finish.{WritesOwn};
 
 use crate::ending::Ending;
@@ -69,7 +69,7 @@ pub fn deliver<D: Desk>(
     ensures finishes { (workers budget : ℕ) → 1 ≤ workers → OutcomeSays formula.now workers budget outcome.entry
         → Finishes workers budget files formula.now result (D.told desk.old) (D.told desk.new) }
     ensures own { (wanted : Option Wanted) → IsBuilt wanted → files ≡ files_of wanted
-        → WritesOwn wanted (D.told desk.old) (D.told desk.new) }
+        → WritesOwn wanted result (D.told desk.old) (D.told desk.new) }
 {
     match reply_to(alloc, formula, files, outcome) {
         Ok(reply) => write(alloc, formula, &reply, desk),
@@ -82,10 +82,8 @@ fn write<D: Desk>(alloc: Global, formula: &Formula, reply: &Reply, desk: &mut D)
     requires order { IsInOrder reply.now.answer }
     requires writable { IsWritable formula.now reply.now.evidence }
     ensures writes { EndsWriting (texts_of reply.now) reply.now.ending result (D.told desk.old) (D.told desk.new) }
-    ensures own { (wanted : Option Wanted) → IsBuilt wanted
-        → (is_some reply.now.evidence.proof ≡ true → uses wanted (Act.Write Port.Proof) ≡ true)
-        → (is_some reply.now.evidence.witness ≡ true → uses wanted (Act.Write Port.Witness) ≡ true)
-        → WritesOwn wanted (D.told desk.old) (D.told desk.new) }
+    ensures own { (wanted : Option Wanted) → IsWantedReply wanted reply.now
+        → WritesOwn wanted result (D.told desk.old) (D.told desk.new) }
 {
     if let Err(end) = put_proof(alloc, &reply.evidence.proof, desk) {
         return ending_of(end);
@@ -117,6 +115,7 @@ fn put_proof<D: Desk>(alloc: Global, proof: &Option<Proof>, desk: &mut D) -> Res
     ensures front { OnErr result (GaveFront Port.Proof (proof_text_of proof.now) (D.told desk.old) (D.told desk.new)) }
     ensures only { WritesOnly Port.Proof (D.told desk.old) (D.told desk.new) }
     ensures none { IsNone proof.now → D.told desk.new ≡ D.told desk.old }
+    ensures some { OnErr result (IsSome proof.now) }
     ensures cause { IfErr result (λ end. HasCause end (D.told desk.old) (D.told desk.new)) }
 {
     match proof {
@@ -136,6 +135,7 @@ fn put_drops<D: Desk>(
     ensures front { OnErr result (GaveFront Port.Witness (drops_text_of witness.now) (D.told desk.old) (D.told desk.new)) }
     ensures only { WritesOnly Port.Witness (D.told desk.old) (D.told desk.new) }
     ensures none { IsNone witness.now → D.told desk.new ≡ D.told desk.old }
+    ensures some { OnErr result (IsSome witness.now) }
     ensures cause { OnErr result (Rose (Act.Write Port.Witness) (D.told desk.old) (D.told desk.new)) }
 {
     match witness {
@@ -156,8 +156,8 @@ fn reply_to<'f>(
     ensures writable { IfOk result (λ reply. IsWritable formula.now reply.evidence) }
     ensures says { IfOk result (λ reply. (workers budget : ℕ) → 1 ≤ workers → OutcomeSays formula.now workers budget outcome.entry
         → TextsSay workers budget files reply.ending formula.now (texts_of reply)) }
-    ensures proof { IfOk result (λ reply. is_some reply.evidence.proof ≡ true → files.proof ≡ true) }
-    ensures witness { IfOk result (λ reply. is_some reply.evidence.witness ≡ true → files.witness ≡ true) }
+    ensures wanted { IfOk result (λ reply. (wanted : Option Wanted) → IsBuilt wanted → files ≡ files_of wanted
+        → IsWantedReply wanted reply) }
 {
     match outcome {
         Outcome::Complete(report) => Ok(whole(files, report)),

@@ -34,10 +34,11 @@ pub record Opens (wanted : Option Wanted) (old new : Told) : Type 0 where
   pub reads : (f : Feed) → new.faults (Read f) ≡ old.faults (Read f)
   pub writes : (p : Port) → new.faults (Write p) ≡ old.faults (Write p)
 
--- nothing was read, and all else was written for what is wanted
-pub record WritesOwn (wanted : Option Wanted) (old new : Told) : Type 0 where
+-- nothing was read, and what was written was wanted; so is a run that ends so
+pub record WritesOwn (wanted : Option Wanted) (ending : Ending) (old new : Told) : Type 0 where
   pub touches : Touches wanted old new
   pub left : (f : Feed) → new.left f ≡ old.left f
+  pub allowed : AllowsEnding wanted ending
 
 -- a run ends so before its search, whatever its workers and their budget are
 pub record IsRefused (wanted : Option Wanted) (ending : Ending) (old new : Told) : Type 0 where

@@ -1,5 +1,7 @@
 -- Replies to outcomes, and what is written of them.
-use Rattle.std.specs.Prelude.{◌≡◌, ◌<◌, ◌⊎◌, ℕ, List, [], length, All, AllPairs, IfSome, Option, Some, None}
+use Rattle.std.specs.Prelude.{◌≡◌, ◌<◌, ◌⊎◌, ℕ, List, [], length, All, AllPairs, IfSome, IsSome, IsTrue, Option, Some, None}
+use Rattle.bone_desk.specs.declared.desk.Port.TheVariants as port
+use Rattle.bone_desk.specs.declared.desk.Act.TheVariants.{Write}
 use Rattle.bone_desk.specs.Told.{Told}
 use Rattle.cnf_core.specs.Formulas.{Cnf}
 use Rattle.lrat_lines.specs.declared.line.Line.{Line}
@@ -11,6 +13,9 @@ use Rattle.model_store.specs.declared.witness.Witness.{Witness}
 use Rattle.witness_text.specs.WitnessText.{store_text}
 use Rattle.run_core.specs.Outcomes.{OutcomeSays}
 use Rattle.run_core.specs.declared.outcome.Outcome.{Outcome}
+use Rattle.bone_words.specs.Settings.{Wanted}
+use Rattle.backbone_main.specs.Words.{IsBuilt, uses}
+use Rattle.backbone_main.specs.Endings.{AllowsEnding}
 use Rattle.backbone_main.specs.Texts.{Texts}
 use Rattle.backbone_main.specs.Outcome.{GaveAll, Stops, StopsWhere, WritesAll, WritesNothing}
 use Rattle.backbone_main.specs.declared.task.Files.{Files}
@@ -53,6 +58,13 @@ pub record HoldsDrops (F : Cnf) (d : Drops) : Type 0 where
 pub record IsWritable (F : Cnf) (evidence : Evidence) : Type 0 where
   pub printable : IfSome evidence.proof (λ lines. All IsPrintable lines)
   pub drops : IfSome evidence.witness (HoldsDrops F)
+
+-- the evidence is wanted, and so is a run that ends so
+pub record IsWantedReply (wanted : Option Wanted) (reply : Reply) : Type 0 where
+  pub built : IsBuilt wanted
+  pub proof : IsSome reply.evidence.proof → IsTrue (uses wanted (Write port.Proof))
+  pub drops : IsSome reply.evidence.witness → IsTrue (uses wanted (Write port.Witness))
+  pub allowed : AllowsEnding wanted reply.ending
 
 -- these are the models and the drops
 pub record IsKeptDrops (s : Store) (ws : List Witness) (d : Drops) : Type 0 where
