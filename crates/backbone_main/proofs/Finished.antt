@@ -66,17 +66,17 @@ cut_onward : (p : Port) (texts : Texts) (a b c : Told) → IsCutAt p texts a b �
 cut_onward port.Proof texts a b c cut only = (
   front_onward port.Proof texts.proof a b c (λ e. absurd (cc)) cut.0 only,
   only.put port.Witness (λ e. absurd (cc)) ∙ cut.1,
-  only.put port.Answer (λ e. absurd (cc)) ∙ cut.2
+  only.put port.Answer (λ e. absurd (cc)) ∙ cut.2,
 )
 cut_onward port.Witness texts a b c cut only = (
   gave_onward port.Proof texts.proof a b c (λ e. absurd (cc)) cut.0 only,
   front_onward port.Witness texts.witness a b c (λ e. absurd (cc)) cut.1 only,
-  only.put port.Answer (λ e. absurd (cc)) ∙ cut.2
+  only.put port.Answer (λ e. absurd (cc)) ∙ cut.2,
 )
 cut_onward port.Answer texts a b c cut only = (
   gave_onward port.Proof texts.proof a b c (λ e. absurd (cc)) cut.0 only,
   gave_onward port.Witness texts.witness a b c (λ e. absurd (cc)) cut.1 only,
-  front_onward port.Answer texts.answer a b c (λ e. absurd (cc)) cut.2 only
+  front_onward port.Answer texts.answer a b c (λ e. absurd (cc)) cut.2 only,
 )
 cut_onward port.Notes texts a b c cut only = absurd cut
 
@@ -143,8 +143,10 @@ fails_onward w n files (Write p) a b c is only = record {
     texts = is.wrote.texts;
     intended = is.wrote.intended;
     say = is.wrote.say;
-    stop = (cut_onward p is.wrote.texts a b c is.wrote.stop.0 only,
-        rose_onward (Write p) a b c is.wrote.stop.1 (cut_elsewhere p is.wrote.texts a b is.wrote.stop.0) only);
+    stop = (
+      cut_onward p is.wrote.texts a b c is.wrote.stop.0 only,
+      rose_onward (Write p) a b c is.wrote.stop.1 (cut_elsewhere p is.wrote.texts a b is.wrote.stop.0) only,
+    );
   };
 }
 
@@ -199,7 +201,7 @@ cut_after port.Witness texts a b c put cut =
 cut_after port.Answer texts a b c put cut = (
   gave_after port.Proof texts.proof a b c put cut.0,
   gave_after port.Witness texts.witness a b c put cut.1,
-  front_after port.Answer texts.answer a b c put cut.2
+  front_after port.Answer texts.answer a b c put cut.2,
 )
 cut_after port.Notes texts a b c put cut = absurd cut
 
@@ -249,8 +251,10 @@ account_of_stop w n files F (Failed (Write p)) a b c reads put counts left stops
     texts = stops.texts;
     intended = stops.intended;
     say = stops.say;
-    stop = (cut_after p stops.texts a b c put stops.stop.0,
-        subst (λ (k : ℕ). k < 2 ^ 64 - 1 → k < c.faults (Write p)) (counts p) stops.stop.1);
+    stop = (
+      cut_after p stops.texts a b c put stops.stop.0,
+      subst (λ (k : ℕ). k < 2 ^ 64 - 1 → k < c.faults (Write p)) (counts p) stops.stop.1,
+    );
   };
 }
 account_of_stop w n files F (Failed (Read f)) a b c reads put counts left stops = absurd stops.stop

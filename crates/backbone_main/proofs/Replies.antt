@@ -114,11 +114,14 @@ cut_proof texts a b front only = (front, only.put port.Witness (λ e. absurd (cc
 pub stops_at_witness : (texts : Texts) (a b c : Told) → Gave port.Proof texts.proof a b → WritesOnly port.Proof a b
     → GaveFront port.Witness texts.witness b c → WritesOnly port.Witness b c → Rose (Write port.Witness) b c
     → StopsWhere texts (Failed (Write port.Witness)) a c
-stops_at_witness texts a b c gave first front second rose =
-    ((second.put port.Proof (λ e. absurd (cc)) ∙ gave,
+stops_at_witness texts a b c gave first front second rose = (
+  (
+    second.put port.Proof (λ e. absurd (cc)) ∙ gave,
     front_from port.Witness texts.witness a b c (first.put port.Witness (λ e. absurd (cc))) front,
-    second.put port.Answer (λ e. absurd (cc)) ∙ first.put port.Answer (λ e. absurd (cc))),
-    rose_from (Write port.Witness) a b c (first.counts.others (Write port.Witness) (λ e. absurd (cc))) rose)
+    second.put port.Answer (λ e. absurd (cc)) ∙ first.put port.Answer (λ e. absurd (cc)),
+  ),
+  rose_from (Write port.Witness) a b c (first.counts.others (Write port.Witness) (λ e. absurd (cc))) rose,
+)
 
 -- what both files gained, once both are written
 gave_proof : (texts : Texts) (a b c d : Told) → Gave port.Proof texts.proof a b → WritesOnly port.Witness b c → WritesOnly port.Answer c d
@@ -145,11 +148,14 @@ pub stops_at_answer : (texts : Texts) (a b c d : Told) → Gave port.Proof texts
     → Gave port.Witness texts.witness b c → WritesOnly port.Witness b c
     → GaveFront port.Answer texts.answer c d → WritesOnly port.Answer c d → Rose (Write port.Answer) c d
     → StopsWhere texts (Failed (Write port.Answer)) a d
-stops_at_answer texts a b c d proof first witness second front third rose =
-    ((gave_proof texts a b c d proof second third,
+stops_at_answer texts a b c d proof first witness second front third rose = (
+  (
+    gave_proof texts a b c d proof second third,
     gave_witness texts a b c d first witness third,
-    front_from port.Answer texts.answer a c d (answer_untouched a b c first second) front),
-    rose_from (Write port.Answer) a c d (answer_unfailed a b c first second) rose)
+    front_from port.Answer texts.answer a c d (answer_untouched a b c first second) front,
+  ),
+  rose_from (Write port.Answer) a c d (answer_unfailed a b c first second) rose,
+)
 
 pub gave_all : (texts : Texts) (a b c d : Told) → Gave port.Proof texts.proof a b → WritesOnly port.Proof a b
     → Gave port.Witness texts.witness b c → WritesOnly port.Witness b c → Gave port.Answer texts.answer c d → WritesOnly port.Answer c d
@@ -204,9 +210,9 @@ pub finishes_writing : (w b : ℕ) (files : Files) (F : Cnf) (texts : Texts) (wr
     → TextsSay w b files written F texts → EndsWriting texts written ending old new → Finishes w b files F ending old new
 finishes_writing w b files F texts written ending old new say writes = elim writes [
   | inl whole ↦ inr (inl (record {
-      texts = texts;
-      say = subst (λ (e : Ending). TextsSay w b files e F texts) (sym whole.0) say;
-      gave = whole.1;
-    }))
+    texts = texts;
+    say = subst (λ (e : Ending). TextsSay w b files e F texts) (sym whole.0) say;
+    gave = whole.1;
+  }))
   | inr stop ↦ inr (inr (record { texts = texts; intended = written; say = say; stop = stop }))
 ]

@@ -39,7 +39,13 @@ fn push_note<D: Desk>(desk: &mut D, buffer: &mut PortBuffer, ending: Ending) -> 
         | Ending::NotBuilt => Ok(()),
         Ending::OutOfMemory => buffer.push(desk, b"error: out of memory\n"),
         Ending::BadText(fault) => push_fault(desk, buffer, fault),
-        Ending::TooLong(feed) => push_named(desk, buffer, b"error: ", feed_name(feed), b" too long\n"),
+        Ending::TooLong(feed) => push_named(
+            desk,
+            buffer,
+            b"error: ",
+            feed_name(feed),
+            b" too long\n",
+        ),
         Ending::Failed(act) => push_named(desk, buffer, failed_words(act), place_name(act), b"\n"),
         Ending::Usage => buffer.push(desk, USAGE),
     }

@@ -13,7 +13,11 @@ use run_core::Report;
 use std::alloc::Global;
 
 /// The first model's literals of the shown variables that are neither dropped nor fixed, by variable.
-pub fn open_literals(alloc: Global, formula: &Formula, report: &Report) -> Result<Vec<Lit>, NoMemory>
+pub fn open_literals(
+    alloc: Global,
+    formula: &Formula,
+    report: &Report,
+) -> Result<Vec<Lit>, NoMemory>
     requires { IsReport formula.now report.now }
     ensures { IfOk result (λ still. still.items ≡ open_literals formula.now report.now) }
 {

@@ -17,7 +17,7 @@ returns-in-Ok g c =
     is.budget is.files is.read c.read_task.ensures.touches
     (c.deliver.ensures.own wanted is.built is.files)
     (subst (λ (n : ℕ). Finishes n task.settings.budget task.files task.formula c.deliver.result
-        (g.D.Desk.told c.read_task.new.desk) (g.D.Desk.told c.deliver.new.desk))
+    (g.D.Desk.told c.read_task.new.desk) (g.D.Desk.told c.deliver.new.desk))
     is.workers (c.deliver.ensures.finishes task.settings.workers task.settings.budget is.some_workers c.run_many-outcome.ensures))
 
 pub returns-in-Err : goal.returns-in-Err
