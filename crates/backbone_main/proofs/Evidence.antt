@@ -60,18 +60,18 @@ reached_clause F lines line tidy here =
 
 -- ---- clauses of one literal, and of none
 
-just_one : (l : Literal) (c : Literals) → IsTrue (is_just l c) → IsSameSet c (l ∷ [])
+just_one : (l : Literal) (c : Literals) → IsTrue (is_just l c) → IsSameSet (l ∷ []) c
 just_one l [] is = absurd (true≢false (sym is))
 just_one l (k ∷ ks) is = record {
   forth = λ x here.
-      let same : l ≡ x = is_same-true l x (passes_of_list_all (is_same l) (k ∷ ks) x is here) in
-      subst (λ (y : Literal). Contains (l ∷ []) y) same (Contains-head l []);
-  back = λ x here.
       let first : l ≡ k = is_same-true l k (passes_of_list_all (is_same l) (k ∷ ks) k is (Contains-head k ks)) in
       ⊎_elim
       (λ (same : l ≡ x). subst (λ (y : Literal). Contains (k ∷ ks) y) (sym first ∙ same) (Contains-head k ks))
       (λ (none : Contains [] x). absurd (Contains-nil x none))
       (Contains-cons_cases l [] x here);
+  back = λ x here.
+      let same : l ≡ x = is_same-true l x (passes_of_list_all (is_same l) (k ∷ ks) x is here) in
+      subst (λ (y : Literal). Contains (l ∷ []) y) same (Contains-head l []);
 }
 
 none_of : (c : Literals) → IsTrue (is_empty c) → c ≡ []
@@ -93,7 +93,7 @@ reached_empty F lines tidy have =
     record {
       set = clause_of line;
       member = reached_clause F lines line tidy there;
-      same = subst (λ (c : Literals). IsSameSet c []) (sym (none_of (clause_of line) passes)) (same_set_itself []);
+      same = subst (λ (c : Literals). IsSameSet [] c) (sym (none_of (clause_of line) passes)) (same_set_itself []);
     }
 
 pub proof_of_report : (F : Cnf) (r : Report) → IsReport F r → IsProofOf F r.fixes.items (proof_text r.proof)

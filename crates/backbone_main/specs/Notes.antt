@@ -62,7 +62,7 @@ place_name (Write p) = port_name p
 
 -- some words, a name, and what ends the line
 abbrev pub named_note : List ℕ → List ℕ → List ℕ → List ℕ
-named_note words name end = words ++ name ++ end
+named_note words name end = (words ++ name) ++ end
 
 -- the note of an ending
 abbrev pub note_of : Ending → List ℕ

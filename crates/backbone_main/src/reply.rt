@@ -203,8 +203,8 @@ fn whole(files: Files, report: Report) -> Reply
 /// The reply where the formula has no model.
 fn no_model<'f>(files: Files, proof: Proof) -> Reply<'f>
     ensures order { IsInOrder result.answer }
-    ensures writable { (F : Cnf) → IsRefuted F proof.entry → IsWritable F result.evidence }
-    ensures says { (F : Cnf) → IsRefuted F proof.entry → TellsNoModel files F (texts_of result) }
+    ensures writable { (F : Cnf) → IsRefuted F proof → IsWritable F result.evidence }
+    ensures says { (F : Cnf) → IsRefuted F proof → TellsNoModel files F (texts_of result) }
     ensures ending { result.ending ≡ Ending.Unsatisfiable }
     ensures proof { is_some result.evidence.proof ≡ files.proof }
     ensures witness { IsNone result.evidence.witness }
@@ -259,9 +259,9 @@ fn evidence_of<'f>(
     models: ModelStore<'f>,
     drops: Vec<Witness>,
 ) -> Evidence<'f>
-    ensures proof { result.proof ≡ then_some files.proof proof.entry }
+    ensures proof { result.proof ≡ then_some files.proof proof }
     ensures witness { is_some result.witness ≡ files.witness }
-    ensures drops { IfSome result.witness (IsKeptDrops models.entry drops.entry.items) }
+    ensures drops { IfSome result.witness (IsKeptDrops models.entry drops.items) }
 {
     Evidence {
         proof: files.proof.then_some(proof),
