@@ -1,6 +1,6 @@
 -- A run that ends before its search: an opening failed, or the reading of the text.
-use Rattle.std.proofs.Common.{◌≡◌, ◌≢◌, ◌<◌, ◌≤◌, ◌-◌, ◌^◌, ◌++◌, ℕ, List, [], length, true, refl, true≢false, sym, ap, ◌∙◌, subst, arith, inl}
-use Rattle.std.specs.Prelude.{Option, Some, None, Result, Ok, Err, OnErr, IsTrue, IfSome, is_err, is_some, option_map}
+use Rattle.std.proofs.Common.{◌≡◌, ◌≢◌, ◌<◌, ◌≤◌, ◌-◌, ◌^◌, ◌++◌, ℕ, List, [], length, true, false, refl, true≢false, sym, ap, ◌∙◌, subst, arith, inl}
+use Rattle.std.specs.Prelude.{Option, Some, None, Result, Ok, Err, OnOk, OnErr, IsTrue, IfSome, is_err, is_some, option_map}
 use Rattle.bone_desk.specs.declared.desk.Feed.{Feed}
 use Rattle.bone_desk.specs.declared.desk.Feed.TheVariants as feed
 use Rattle.bone_desk.specs.declared.desk.Port.{Port}
@@ -97,6 +97,10 @@ refused_memory w a b put = record { account = λ workers budget files. inl (λ p
 pub at_err : {T E P : Type 0} (r : Result T E) → is_err r ≡ true → OnErr r P → P
 at_err (Ok x) failed is = absurd (true≢false (sym failed))
 at_err (Err e) failed is = is
+
+pub at_ok : {T E P : Type 0} (r : Result T E) → is_err r ≡ false → OnOk r P → P
+at_ok (Ok x) fine is = is
+at_ok (Err e) fine is = absurd (true≢false fine)
 
 pub is_named : {X Y : Type 0} (f : X → Y) (o : Option X) → is_some (option_map f o) ≡ is_some o
 is_named f None = refl

@@ -1,5 +1,5 @@
 -- From an outcome to what is written of it.
-use Rattle.std.proofs.Common.{◌≡◌, ◌≢◌, ℕ, ◌≤◌, ◌<◌, ◌-◌, ◌^◌, ◌++◌, Bool, List, [], ◌∷◌, true, false, refl, sym, ap, ◌∙◌, subst, inl, inr, arith}
+use Rattle.std.proofs.Common.{◌≡◌, ◌≢◌, ℕ, ◌≤◌, ◌<◌, ◌-◌, ◌^◌, ◌++◌, Bool, List, [], ◌∷◌, true, false, true≢false, refl, sym, ap, ◌∙◌, subst, inl, inr, arith}
 use Rattle.std.specs.Prelude.{Option, IfSome, IsSome, IsTrue, is_some, option_map}
 use Rattle.std.specs.Bool.{then_some}
 use Rattle.std.proofs.lemmas.List.Elements.{All-cons, All-nil}
@@ -15,7 +15,8 @@ use Rattle.cnf_core.proofs.Models.{no_model}
 use Rattle.lrat_lines.specs.declared.line.Line.{Line}
 use Rattle.lrat_lines.specs.Printed.{proof_text}
 use Rattle.model_store.specs.Stores.{model_at}
-use Rattle.answer_text.specs.AnswerText.{answer_text, sat_text, unsat_text, partial_text, unknown_text}
+use Rattle.answer_text.specs.declared.answer.Answer.{Answer}
+use Rattle.answer_text.specs.AnswerText.{answer_text, sat_text, unsat_text, partial_text, text_of}
 use Rattle.answer_text.proofs.Verdicts.{answer_text-sat, answer_text-unsat}
 use Rattle.run_core.specs.declared.outcome.Report.{Report}
 use Rattle.run_core.specs.Outcomes.{IsReport, IsComplete, IsPartial, IsRefuted, IsSpent, IsUnfinished}
@@ -23,6 +24,7 @@ use Rattle.lrat_log.specs.Entries.{Recorded}
 use Rattle.bone_words.specs.Settings.{Wanted}
 use Rattle.backbone_main.specs.declared.task.Files.{Files}
 use Rattle.backbone_main.specs.declared.reply.Drops.{Drops}
+use Rattle.backbone_main.specs.declared.reply.Evidence.{Evidence}
 use Rattle.backbone_main.specs.declared.reply.Reply.{Reply}
 use Rattle.backbone_main.specs.declared.ending.Ending.{Ending}
 use Rattle.backbone_main.specs.declared.ending.Ending.TheVariants.{Failed, OutOfMemory}
@@ -32,10 +34,10 @@ use Rattle.backbone_main.specs.Texts.{Texts, text_for, AreSpent, HasModel, IsEvi
 use Rattle.backbone_main.specs.Outcome.{GaveAll, IsCutAt, StopsWhere}
 use Rattle.backbone_main.specs.Steps.Open.{open_literals}
 use Rattle.backbone_main.specs.Steps.Finish.{WritesOwn, Touches}
-use Rattle.backbone_main.specs.Steps.Replies.{EndsWriting, Finishes, IsKeptDrops, IsWantedReply, proof_text_of, drops_text_of, texts_of}
+use Rattle.backbone_main.specs.Steps.Replies.{EndsWriting, Finishes, IsKeptDrops, IsWantedReply, IsWritable, proof_text_of, drops_text_of, texts_of}
 use Rattle.backbone_main.proofs.Own.{touches_none, touches_more, touches_by_write, touches_by_choice}
 use Rattle.backbone_main.proofs.Partial.{complete_witness, first_is_model, known_part, partial_witness}
-use Rattle.backbone_main.proofs.Evidence.{drops_where, proof_of_report, proof_where, refutation}
+use Rattle.backbone_main.proofs.Evidence.{drops_where, drops_writable, printable_of_tidy, proof_of_report, proof_where, proof_writable, refutation}
 
 -- ---- what each outcome's reply tells
 
@@ -68,23 +70,52 @@ tells_no_model files F lines proof proof_is is = record {
   witness = refl;
 }
 
-pub tells_part : (files : Files) (F : Cnf) (r : Report) (still : Literals) (proof : Option (List Line)) (drops : Option Drops)
-    → still ≡ open_literals F r → proof ≡ then_some files.proof r.proof → is_some drops ≡ files.witness
+pub tells_part : (files : Files) (F : Cnf) (r : Report) (still : Literals) (answer : Answer) (proof : Option (List Line))
+    (drops : Option Drops) → text_of answer ≡ partial_text r.fixes.items still → still ≡ open_literals F r
+    → proof ≡ then_some files.proof r.proof → is_some drops ≡ files.witness
     → IfSome drops (IsKeptDrops r.models r.drops.items) → IsUnfinished F r
-    → TellsPart files F (record { answer = partial_text r.fixes.items still; proof = proof_text_of proof; witness = drops_text_of drops })
-tells_part files F r still proof drops still_is proof_is wanted keeps is =
+    → TellsPart files F (record { answer = text_of answer; proof = proof_text_of proof; witness = drops_text_of drops })
+tells_part files F r still answer proof drops answer_is still_is proof_is wanted keeps is =
     record {
       has_model = has_model_of F r is.report;
       fixed = r.fixes.items;
       still = open_literals F r;
       known = known_part F r is;
-      answer = ap (partial_text r.fixes.items) still_is;
+      answer = answer_is ∙ ap (partial_text r.fixes.items) still_is;
       evidence = record {
         proof = proof_where files.proof proof r.proof (IsProofOf F r.fixes.items) proof_is (proof_of_report F r is.report);
         witness = drops_where files.witness drops r.models r.drops.items (IsWitnessOf F (r.fixes.items ++ open_literals F r)) wanted keeps
             (partial_witness F r is.report);
       };
     }
+
+pub writable_report : (files : Files) (F : Cnf) (r : Report) (evidence : Evidence) → evidence.proof ≡ then_some files.proof r.proof
+    → IfSome evidence.witness (IsKeptDrops r.models r.drops.items) → IsReport F r → IsWritable F evidence
+writable_report files F r evidence proof_is keeps report = record {
+  printable = proof_writable files.proof evidence.proof r.proof proof_is (printable_of_tidy F r.proof report.tidy);
+  drops = drops_writable F r evidence.witness report keeps;
+}
+
+-- what is named is wanted
+pub wanted_reply : (w : Option Wanted) (files : Files) (reply : Reply) → IsBuilt w → files ≡ files_of w
+    → is_some reply.evidence.proof ≡ files.proof → is_some reply.evidence.witness ≡ files.witness → AllowsEnding w reply.ending
+    → IsWantedReply w reply
+wanted_reply w files reply built files_are proof drops allowed = record {
+  built = built;
+  proof = λ some. ap (λ (fs : Files). fs.proof) (sym files_are) ∙ sym proof ∙ some;
+  drops = λ some. ap (λ (fs : Files). fs.witness) (sym files_are) ∙ sym drops ∙ some;
+  allowed = allowed;
+}
+
+-- without evidence nothing has to be named
+pub bare_reply : (w : Option Wanted) (reply : Reply) → IsBuilt w → is_some reply.evidence.proof ≡ false
+    → is_some reply.evidence.witness ≡ false → AllowsEnding w reply.ending → IsWantedReply w reply
+bare_reply w reply built proof drops allowed = record {
+  built = built;
+  proof = λ some. absurd (true≢false (sym some ∙ proof));
+  drops = λ some. absurd (true≢false (sym some ∙ drops));
+  allowed = allowed;
+}
 
 pub spent_of_partial : (F : Cnf) (workers budget : ℕ) (r : Report) (logs : List Recorded) → 1 ≤ workers
     → IsPartial F workers budget r logs → AreSpent F workers budget

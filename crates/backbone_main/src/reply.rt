@@ -1,16 +1,18 @@
 //! What is written of the outcome of a run: first the proof, then the witness, then the answer.
-ghost use Rattle.std.specs.Prelude.{◌≡◌, ℕ, ◌≤◌, IfOk, IfErr, OnOk, OnErr, IfSome, IsSome, IsNone, is_some, All, Option};
+ghost use Rattle.std.specs.Prelude.{◌≡◌, true, ℕ, ◌≤◌, IfOk, IfErr, OnOk, OnErr, IfSome, IsSome, IsNone, is_some, All, Option};
 ghost use Rattle.std.specs.Bool.{then_some};
 ghost use Rattle.bone_desk.specs.Told.{Told, Rose, WritesOnly, Gave};
 ghost use Rattle.bone_desk.specs.Gives.{GaveFront};
 ghost use Rattle.cnf_core.specs.Formulas.{Cnf};
 ghost use Rattle.lrat_lines.specs.Printed.{IsPrintable};
 ghost use Rattle.lrat_lines.specs.Writings.{HasCause};
-ghost use Rattle.answer_text.specs.AnswerText.{IsInOrder};
-ghost use Rattle.run_core.specs.Outcomes.{OutcomeSays, IsComplete, IsRefuted, IsUnfinished};
+ghost use Rattle.lrat_log.specs.Entries.{Recorded};
+ghost use Rattle.answer_text.specs.AnswerText.{IsInOrder, IsPartialInOrder, partial_text, text_of};
+ghost use Rattle.run_core.specs.Outcomes.{OutcomeSays, IsComplete, IsRefuted, IsSpent, IsUnfinished};
 ghost use Rattle.bone_words.specs.Settings.{Wanted};
-ghost use Rattle.backbone_main.specs.Words.{IsBuilt, files_of};
-ghost use Rattle.backbone_main.specs.Texts.{Texts, TellsBackbone, TellsNoModel, TellsPart, TextsSay};
+ghost use Rattle.backbone_main.specs.Words.{IsBuilt, files_of, uses};
+ghost use Rattle.backbone_main.specs.Endings.{AllowsEnding};
+ghost use Rattle.backbone_main.specs.Texts.{Texts, AreSpent, TellsBackbone, TellsNoModel, TellsNothing, TellsPart, TextsSay};
 ghost use Rattle.backbone_main.specs.Outcome.{IsCutAt, StopsWhere};
 ghost use Rattle.backbone_main.specs.Steps.Replies.{IsWritable, HoldsDrops, IsKeptDrops, proof_text_of, drops_text_of, texts_of};
 ghost use Rattle.backbone_main.specs.Steps.Replies.{EndsWriting, Finishes, HasEnded, IsWantedReply};
@@ -21,7 +23,7 @@ use crate::open_part::open_literals;
 use crate::task::Files;
 use answer_text::{Answer, write_answer};
 use bone_desk::{Act, Desk, Port};
-use cnf_core::{Formula, NoMemory};
+use cnf_core::{Formula, Lit, NoMemory};
 use lrat_lines::{Proof, ProofEnd, write_proof};
 use model_store::{ModelStore, Witness};
 use run_core::{Outcome, Report};
@@ -99,7 +101,9 @@ fn write<D: Desk>(alloc: Global, formula: &Formula, reply: &Reply, desk: &mut D)
 
 /// How a run ends whose proof was not written whole.
 fn ending_of(end: ProofEnd) -> Ending
-    ensures { (texts : Texts) (old new : Told) → IsCutAt Port.Proof texts old new → HasCause end old new
+    ensures allowed { (wanted : Option Wanted) → IsBuilt wanted → uses wanted (Act.Write Port.Proof) ≡ true
+        → AllowsEnding wanted result }
+    ensures stops { (texts : Texts) (old new : Told) → IsCutAt Port.Proof texts old new → HasCause end old new
         → StopsWhere texts result old new }
 {
     match end {
@@ -163,14 +167,7 @@ fn reply_to<'f>(
         Outcome::Complete(report) => Ok(whole(files, report)),
         Outcome::Unsat(proof) => Ok(no_model(files, proof)),
         Outcome::Partial(report, _) => partial(alloc, formula, files, report, Ending::Unfinished),
-        Outcome::Unknown(_) => Ok(Reply {
-            answer: Answer::Unknown,
-            evidence: Evidence {
-                proof: None,
-                witness: None,
-            },
-            ending: Ending::Unknown,
-        }),
+        Outcome::Unknown(_) => Ok(nothing_known()),
         Outcome::Memory(Some(report)) => {
             partial(alloc, formula, NO_FILES, report, Ending::OutOfMemory)
         }
@@ -219,6 +216,25 @@ fn no_model<'f>(files: Files, proof: Proof) -> Reply<'f>
     }
 }
 
+/// The reply where no model was found.
+fn nothing_known<'f>() -> Reply<'f>
+    ensures order { IsInOrder result.answer }
+    ensures writable { (F : Cnf) → IsWritable F result.evidence }
+    ensures says { (F : Cnf) (budget : ℕ) (L : Recorded) → IsSpent F budget L → TellsNothing (texts_of result) × AreSpent F 1 budget }
+    ensures ending { result.ending ≡ Ending.Unknown }
+    ensures proof { IsNone result.evidence.proof }
+    ensures witness { IsNone result.evidence.witness }
+{
+    Reply {
+        answer: Answer::Unknown,
+        evidence: Evidence {
+            proof: None,
+            witness: None,
+        },
+        ending: Ending::Unknown,
+    }
+}
+
 /// The reply where a candidate is open.
 fn partial<'f>(
     alloc: Global,
@@ -243,13 +259,18 @@ fn partial<'f>(
         fixes,
     } = report;
     Ok(Reply {
-        answer: Answer::Partial {
-            fixed: fixes,
-            still,
-        },
+        answer: answer_of_part(fixes, still),
         evidence: evidence_of(files, proof, models, drops),
         ending,
     })
+}
+
+/// The answer that names the fixed literals and the open ones.
+fn answer_of_part(fixed: Vec<Lit>, still: Vec<Lit>) -> Answer
+    ensures text { text_of result ≡ partial_text fixed.items still.items }
+    ensures order { IsPartialInOrder fixed.items still.items → IsInOrder result }
+{
+    Answer::Partial { fixed, still }
 }
 
 /// As much of the evidence as is wanted.
