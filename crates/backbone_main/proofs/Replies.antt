@@ -19,7 +19,7 @@ use Rattle.answer_text.specs.declared.answer.Answer.{Answer}
 use Rattle.answer_text.specs.AnswerText.{answer_text, sat_text, unsat_text, partial_text, text_of}
 use Rattle.answer_text.proofs.Verdicts.{answer_text-sat, answer_text-unsat}
 use Rattle.run_core.specs.declared.outcome.Report.{Report}
-use Rattle.run_core.specs.Outcomes.{IsReport, IsComplete, IsPartial, IsRefuted, IsSpent, IsUnfinished}
+use Rattle.run_core.specs.Outcomes.{IsReport, IsComplete, IsRefuted, IsSpent, IsUnfinished}
 use Rattle.lrat_log.specs.Entries.{Recorded}
 use Rattle.bone_words.specs.Settings.{Wanted}
 use Rattle.backbone_main.specs.declared.task.Files.{Files}
@@ -116,11 +116,6 @@ bare_reply w reply built proof drops allowed = record {
   drops = λ some. absurd (true≢false (sym some ∙ drops));
   allowed = allowed;
 }
-
-pub spent_of_partial : (F : Cnf) (workers budget : ℕ) (r : Report) (logs : List Recorded) → 1 ≤ workers
-    → IsPartial F workers budget r logs → AreSpent F workers budget
-spent_of_partial F workers budget r logs some partial =
-    record { some = some; logs = logs; each = partial.each; spent = partial.spent }
 
 pub spent_of_one : (F : Cnf) (budget : ℕ) (L : Recorded) → IsSpent F budget L → AreSpent F 1 budget
 spent_of_one F budget L spent =

@@ -85,15 +85,7 @@ fn extraction_of(settings: Settings) -> Option<Extraction>
 }
 
 /// Opens what is named, and reads the formula of the text.
-#[tactic(auto, using(
-    crate::proofs::Own::touches_text_of_opens,
-    crate::proofs::Own::touches_text_by_read,
-    crate::proofs::Refused::reads_from,
-    crate::proofs::Refused::refused_read,
-    crate::proofs::Refused::refused_long,
-    crate::proofs::Refused::refused_text,
-    crate::proofs::Refused::refused_memory
-))]
+#[tactic(auto, using(crate::proofs::Own::touches_text_of_opens, crate::proofs::Own::touches_text_by_read, crate::proofs::Refused::reads_from, crate::proofs::Refused::refused_read, crate::proofs::Refused::refused_long, crate::proofs::Refused::refused_text, crate::proofs::Refused::refused_memory))]
 fn open_and_read<D: Desk>(
     alloc: Global,
     extraction: &Extraction,
