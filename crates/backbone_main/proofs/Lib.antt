@@ -1,6 +1,9 @@
 pub mod Narrowing
 pub mod Numbering
+pub mod Own
+pub mod Refused
 pub mod Partial
+pub mod Evidence
 pub mod Replies
 pub mod Finished
 pub mod Served

@@ -4,7 +4,7 @@ use Rattle.std.specs.Prelude.{slice_index_or}
 use Rattle.std.proofs.lemmas.Bool.{and_parts, and_from, both_ways, false_from_ne_true, or_cases, or_left, or_right}
 use Rattle.std.proofs.lemmas.List.Kept.{AllPairs-filter}
 use Rattle.std.proofs.lemmas.List.Quantifiers.{all_pairs_push}
-use Rattle.std.proofs.lemmas.List.Elements.{All-contains, All-contains_itself, All-head, All-tail, All-weaker, All-get_or, filter-append}
+use Rattle.std.proofs.lemmas.List.Elements.{All-contains, All-contains_itself, All-head, All-tail, All-weaker, All-get_or, filter-append, Contains-append_cases, Contains-append_left, Contains-append_right}
 use Rattle.std.proofs.lemmas.List.Folds.{list_any_more}
 use Rattle.std.proofs.lemmas.List.{append-nil, length-set, length-replicate, get_or-replicate}
 use Rattle.cnf_core.specs.Literals.{Literal, Literals, Assignment, RisesByVar, IsWithin, value_of, with_value}
@@ -18,8 +18,9 @@ use Rattle.model_store.specs.Stores.{model_at}
 use Rattle.model_store.specs.Witnesses.{witness_in}
 use Rattle.model_store.specs.declared.witness.Witness.{Witness}
 use Rattle.run_core.specs.declared.outcome.Report.{Report}
-use Rattle.run_core.specs.Outcomes.{IsReport, IsDropped, IsFixed, IsOpen, IsUnfinished, HasFix}
-use Rattle.backbone_main.specs.Outcome.{IsPartialText}
+use Rattle.run_core.specs.Outcomes.{IsReport, IsComplete, IsDropped, IsFixed, IsOpen, IsUnfinished, HasDrop, HasFix}
+use Rattle.backbone_main.specs.Texts.{IsKnownPart, IsWitnessOf, HasLiteralOf}
+use Rattle.witness_text.specs.WitnessText.{store_text}
 use Rattle.backbone_main.specs.Steps.Open.{has_var, is_dropped, is_fixed, is_open, open_literals, IsMarked, is_unmarked}
 
 -- a member of the images, and what it is the image of
@@ -184,15 +185,12 @@ partial_in_order F r report = record {
   apart = apart_of F r;
 }
 
-pub partial_text_of : (F : Cnf) (r : Report) → IsUnfinished F r → IsPartialText F (partial_text r.fixes.items (open_literals F r))
-partial_text_of F r unfinished =
+pub known_part : (F : Cnf) (r : Report) → IsUnfinished F r → IsKnownPart F r.fixes.items (open_literals F r)
+known_part F r unfinished =
     let report = unfinished.report in
     let a = model_at r.models 0 in
     let model = first_is_model F r report in
     record {
-      fixed = r.fixes.items;
-      still = open_literals F r;
-      text_is = refl;
       in_order = partial_in_order F r report;
       some = some_of (open_literals F r) _ (open_member F r unfinished.var unfinished.is_open);
       members = All-weaker (IsFixed F r.models) (Contains (shown_backbone F)) (λ l is. ((is_shown_backbone F a model).just l).1 (is.shown, is.entailed)) r.fixes.items report.fixed;
@@ -200,6 +198,68 @@ partial_text_of F r unfinished =
           (open_literals F r) (All-contains_itself (open_literals F r));
       others = λ l here. member_cases F r l report here;
     }
+
+-- ---- the witness of a report
+
+witness_of : (F : Cnf) (r : Report) (named : Literals) → IsReport F r → ((x : ℕ) → HasDrop r x → HasLiteralOf named x → ⊥)
+    → ((x : ℕ) → IsTrue (is_shown F x) → HasDrop r x ⊎ HasLiteralOf named x) → IsWitnessOf F named (store_text r.models r.drops.items)
+witness_of F r named report apart covers = record {
+  store = r.models;
+  drops = r.drops.items;
+  text_is = refl;
+  formula = report.formula;
+  some = report.some;
+  are_models = report.models;
+  rise = report.drops_rise;
+  dropped = report.dropped;
+  apart = apart;
+  covers = covers;
+}
+
+pub complete_witness : (F : Cnf) (r : Report) → IsComplete F r → IsWitnessOf F (shown_backbone F ++ []) (store_text r.models r.drops.items)
+complete_witness F r is =
+    subst (λ (named : Literals). IsWitnessOf F named (store_text r.models r.drops.items))
+    (is.backbone ∙ sym (append-nil (shown_backbone F)))
+    (witness_of F r r.fixes.items is.report is.report.apart is.covered)
+
+partial_apart : (F : Cnf) (r : Report) → IsReport F r → (x : ℕ) → HasDrop r x
+    → HasLiteralOf (r.fixes.items ++ open_literals F r) x → ⊥
+partial_apart F r report x dropped named =
+    let image = image_of (λ (l : Literal). l.var) (r.fixes.items ++ open_literals F r) x named in
+    ⊎_elim
+    (λ (fixed : Contains r.fixes.items image.source).
+    report.apart x dropped (subst (λ (y : ℕ). HasFix r y) image.is (image_in (λ (l : Literal). l.var) r.fixes.items image.source fixed)))
+    (λ (free : Contains (open_literals F r) image.source).
+    (open_vars F r image.source free).not_dropped (subst (λ (y : ℕ). HasDrop r y) (sym image.is) dropped))
+    (Contains-append_cases r.fixes.items (open_literals F r) image.source image.member)
+
+partial_covers : (F : Cnf) (r : Report) (x : ℕ) → IsTrue (is_shown F x)
+    → HasDrop r x ⊎ HasLiteralOf (r.fixes.items ++ open_literals F r) x
+partial_covers F r x shown =
+    by_tests (is_dropped r x) (is_fixed r x) refl refl
+  where
+    by_tests : (d f : Bool) → is_dropped r x ≡ d → is_fixed r x ≡ f
+        → HasDrop r x ⊎ HasLiteralOf (r.fixes.items ++ open_literals F r) x
+    by_tests true f dropped fixed = inl (contains_of (λ (w : Witness). w.var) r.drops.items x dropped)
+    by_tests false true dropped fixed =
+        let image = var_of (λ (l : Literal). l.var) r.fixes.items x fixed in
+        inr (subst (λ (y : ℕ). HasLiteralOf (r.fixes.items ++ open_literals F r) y) image.is
+        (image_in (λ (l : Literal). l.var) (r.fixes.items ++ open_literals F r) image.source
+        (Contains-append_left r.fixes.items (open_literals F r) image.source image.member)))
+    by_tests false false dropped fixed =
+        let is : IsOpen F r x = record {
+          shown = shown;
+          not_dropped = λ here. both_ways (is_dropped r x) dropped (has_var_of (λ (w : Witness). w.var) r.drops.items x here);
+          not_fixed = λ here. both_ways (is_fixed r x) fixed (has_var_of (λ (l : Literal). l.var) r.fixes.items x here);
+        } in
+        let l = true_literal (model_at r.models 0) x in
+        inr (image_in (λ (k : Literal). k.var) (r.fixes.items ++ open_literals F r) l
+        (Contains-append_right r.fixes.items (open_literals F r) l (open_member F r x is)))
+
+pub partial_witness : (F : Cnf) (r : Report) → IsReport F r
+    → IsWitnessOf F (r.fixes.items ++ open_literals F r) (store_text r.models r.drops.items)
+partial_witness F r report =
+    witness_of F r (r.fixes.items ++ open_literals F r) report (partial_apart F r report) (partial_covers F r)
 
 -- one mark more, as at a step of a loop
 marked_at : (a b c v : Bool) (e : Bool) → c ≡ (a || b) → v ≡ cond e true c → v ≡ (a || (b || e))

@@ -5,7 +5,7 @@ use Rattle.cnf_core.specs.Formulas.{Cnf, empty_formula}
 use Rattle.lrat_log.specs.Entries.{empty_log}
 use Rattle.lrat_log.specs.Laws.{enough, NoLogIsFull}
 use Rattle.run_core.specs.Outcomes.{IsSpent}
-use Rattle.backbone_main.specs.Outcome.{AreSpent}
+use Rattle.backbone_main.specs.Texts.{AreSpent}
 
 pub never_spent : NoLogIsFull → (F : Cnf) (count budget : ℕ) → enough F.vars ≤ budget → AreSpent F count budget → ⊥
 never_spent law F count budget is_enough are =

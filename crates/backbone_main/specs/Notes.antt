@@ -1,7 +1,11 @@
 -- The note of a run: one line for the user, or nothing.
 use Rattle.std.specs.Prelude.{ℕ, List, [], ◌++◌, codes, decimal, ◌⊎◌}
+use Rattle.bone_desk.specs.declared.desk.Feed.{Feed}
+use Rattle.bone_desk.specs.declared.desk.Feed.TheVariants as feed
+use Rattle.bone_desk.specs.declared.desk.Port.{Port}
 use Rattle.bone_desk.specs.declared.desk.Port.TheVariants as port
-use Rattle.bone_desk.specs.declared.desk.Act.TheVariants.{Write}
+use Rattle.bone_desk.specs.declared.desk.Act.{Act}
+use Rattle.bone_desk.specs.declared.desk.Act.TheVariants.{OpenFeed, OpenPort, Read, Write}
 use Rattle.bone_desk.specs.Told.{Told, Rose, Gave}
 use Rattle.bone_desk.specs.Gives.{GaveFront}
 use Rattle.dimacs_reader.specs.declared.fault.BadKind.{BadKind}
@@ -9,7 +13,7 @@ use Rattle.dimacs_reader.specs.declared.fault.BadKind.TheVariants as kind
 use Rattle.dimacs_reader.specs.declared.fault.Fault.{Fault}
 use Rattle.backbone_main.specs.declared.ending.Ending.{Ending}
 use Rattle.backbone_main.specs.declared.ending.Ending.TheVariants.{Complete, Unsatisfiable, Unfinished, Unknown, OutOfMemory, BadText, TooLong}
-use Rattle.backbone_main.specs.declared.ending.Ending.TheVariants.{NotBuilt, ReadFault, WriteFault, OpenFault, Usage}
+use Rattle.backbone_main.specs.declared.ending.Ending.TheVariants.{NotBuilt, Failed, Usage}
 
 -- the number of a kind of fault
 abbrev pub kind_number : BadKind → ℕ
@@ -30,19 +34,47 @@ fault_note fault =
     ++ (codes " at byte " ++ decimal fault.place)
     ++ codes "\n"
 
+-- the words for a feed and for a port
+abbrev pub feed_name : Feed → List ℕ
+feed_name feed.Text = codes "text"
+feed_name feed.Answer = codes "answer"
+feed_name feed.Proof = codes "proof"
+feed_name feed.Witness = codes "witness"
+
+abbrev pub port_name : Port → List ℕ
+port_name port.Answer = codes "answer"
+port_name port.Proof = codes "proof"
+port_name port.Witness = codes "witness"
+port_name port.Notes = codes "notes"
+
+-- the words for an act that failed, and for the feed or port on which it did
+abbrev pub failed_words : Act → List ℕ
+failed_words (OpenFeed f) = codes "error: open failed: "
+failed_words (OpenPort p) = codes "error: open failed: "
+failed_words (Read f) = codes "error: read failed: "
+failed_words (Write p) = codes "error: write failed: "
+
+abbrev pub place_name : Act → List ℕ
+place_name (OpenFeed f) = feed_name f
+place_name (OpenPort p) = port_name p
+place_name (Read f) = feed_name f
+place_name (Write p) = port_name p
+
+-- some words, a name, and what ends the line
+abbrev pub named_note : List ℕ → List ℕ → List ℕ → List ℕ
+named_note words name end = (words ++ name) ++ end
+
 -- the note of an ending
 abbrev pub note_of : Ending → List ℕ
 note_of Complete = []
 note_of Unsatisfiable = []
 note_of OutOfMemory = codes "error: out of memory\n"
 note_of (BadText fault) = fault_note fault
-note_of TooLong = codes "error: text too long\n"
+note_of (TooLong f) = named_note (codes "error: ") (feed_name f) (codes " too long\n")
 note_of Unfinished = []
 note_of Unknown = []
 note_of NotBuilt = []
-note_of ReadFault = codes "error: read failed: text\n"
-note_of WriteFault = codes "error: write failed: answer\n"
-note_of OpenFault = codes "error: open failed: text\n"
+note_of (Failed act) = named_note (failed_words act) (place_name act) (codes "\n")
 note_of Usage = codes "usage: backbone extract|check|sample [options] [names]\n"
 
 -- the Notes port gained a front of the note, and all of it unless a write to that port failed

@@ -1,3 +1,4 @@
 pub mod Finish
+pub mod Replies
 pub mod Open
 pub mod Numbered

@@ -1,6 +1,7 @@
 ghost use Rattle.std.specs.Prelude.{◌≡◌};
-ghost use Rattle.backbone_main.specs.Outcome.{code_of};
+ghost use Rattle.backbone_main.specs.Endings.{code_of, failure_code};
 
+use bone_desk::{Act, Feed};
 use dimacs_reader::Fault;
 
 /// How a run ends.
@@ -14,20 +15,16 @@ pub enum Ending {
     Unfinished,
     /// Whether the formula has a model was not found out within the budget, and that was written.
     Unknown,
-    /// There was too little memory. What was known then of the backbone was written, or nothing.
+    /// There was too little memory. What was known then of the backbone was written, or a front of the proof, or nothing.
     OutOfMemory,
     /// The text means no formula: this is its first fault.
     BadText(Fault),
-    /// The text has more bytes than are read.
-    TooLong,
+    /// The feed has more bytes than are read.
+    TooLong(Feed),
     /// The words ask for what the program can't do yet.
     NotBuilt,
-    /// The text could not be read.
-    ReadFault,
-    /// The answer could not be written.
-    WriteFault,
-    /// The text could not be opened.
-    OpenFault,
+    /// This act failed. It isn't the writing of the note.
+    Failed(Act),
     /// The words of the command line have no meaning.
     Usage,
 }
@@ -44,12 +41,21 @@ impl Ending {
             Ending::Unknown => 31,
             Ending::OutOfMemory => 40,
             Ending::BadText(_) => 50,
-            Ending::TooLong => 51,
+            Ending::TooLong(_) => 51,
             Ending::NotBuilt => 52,
-            Ending::ReadFault => 60,
-            Ending::WriteFault => 61,
-            Ending::OpenFault => 62,
+            Ending::Failed(act) => failure_code(act),
             Ending::Usage => 64,
         }
+    }
+}
+
+/// The status where this act failed.
+fn failure_code(act: Act) -> u8
+    ensures { result ≡ failure_code act }
+{
+    match act {
+        Act::Read(_) => 60,
+        Act::Write(_) => 61,
+        Act::OpenFeed(_) | Act::OpenPort(_) => 62,
     }
 }

@@ -5,6 +5,7 @@ mod ending;
 #[cfg(test)]
 mod enumeration;
 mod note;
+mod open_part;
 mod reply;
 mod serve;
 mod task;

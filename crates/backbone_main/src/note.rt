@@ -2,10 +2,11 @@
 ghost use Rattle.std.specs.Prelude.{◌≡◌, ◌++◌, decimal, OnOk, OnErr};
 ghost use Rattle.bone_desk.specs.Told.{Rose, WritesOnly, Gave};
 ghost use Rattle.bone_desk.specs.Gives.{GaveFront, Pushed, CutOff};
-ghost use Rattle.backbone_main.specs.Notes.{note_of, fault_note, kind_number};
+ghost use Rattle.backbone_main.specs.Notes.{note_of, fault_note, failed_words, feed_name, kind_number, named_note};
+ghost use Rattle.backbone_main.specs.Notes.{place_name, port_name};
 
 use crate::ending::Ending;
-use bone_desk::{Act, Desk, Failed, Port, PortBuffer};
+use bone_desk::{Act, Desk, Failed, Feed, Port, PortBuffer};
 use dimacs_reader::{BadKind, Fault};
 use itoa::Buffer;
 
@@ -38,11 +39,78 @@ fn push_note<D: Desk>(desk: &mut D, buffer: &mut PortBuffer, ending: Ending) -> 
         | Ending::NotBuilt => Ok(()),
         Ending::OutOfMemory => buffer.push(desk, b"error: out of memory\n"),
         Ending::BadText(fault) => push_fault(desk, buffer, fault),
-        Ending::TooLong => buffer.push(desk, b"error: text too long\n"),
-        Ending::ReadFault => buffer.push(desk, b"error: read failed: text\n"),
-        Ending::WriteFault => buffer.push(desk, b"error: write failed: answer\n"),
-        Ending::OpenFault => buffer.push(desk, b"error: open failed: text\n"),
+        Ending::TooLong(feed) => push_named(
+            desk,
+            buffer,
+            b"error: ",
+            feed_name(feed),
+            b" too long\n",
+        ),
+        Ending::Failed(act) => push_named(desk, buffer, failed_words(act), place_name(act), b"\n"),
         Ending::Usage => buffer.push(desk, USAGE),
+    }
+}
+
+/// Some words, a name, and what ends the line.
+fn push_named<D: Desk>(
+    desk: &mut D,
+    buffer: &mut PortBuffer,
+    words: &[u8],
+    name: &[u8],
+    end: &[u8],
+) -> Result<(), Failed>
+    ensures ok { OnOk result (Pushed (named_note words.now name.now end.now) buffer.old buffer.new
+        (D.told desk.old) (D.told desk.new)) }
+    ensures err { OnErr result (CutOff (named_note words.now name.now end.now) buffer.old
+        (D.told desk.old) (D.told desk.new)) }
+{
+    buffer.push(desk, words)?;
+    buffer.push(desk, name)?;
+    buffer.push(desk, end)
+}
+
+/// The words for an act that failed.
+fn failed_words(act: Act) -> &'static [u8]
+    ensures { result.now ≡ failed_words act }
+{
+    match act {
+        Act::OpenFeed(_) | Act::OpenPort(_) => b"error: open failed: ",
+        Act::Read(_) => b"error: read failed: ",
+        Act::Write(_) => b"error: write failed: ",
+    }
+}
+
+/// The name of the feed or port that an act is on.
+fn place_name(act: Act) -> &'static [u8]
+    ensures { result.now ≡ place_name act }
+{
+    match act {
+        Act::OpenFeed(feed) | Act::Read(feed) => feed_name(feed),
+        Act::OpenPort(port) | Act::Write(port) => port_name(port),
+    }
+}
+
+/// The name of a feed.
+fn feed_name(feed: Feed) -> &'static [u8]
+    ensures { result.now ≡ feed_name feed }
+{
+    match feed {
+        Feed::Text => b"text",
+        Feed::Answer => b"answer",
+        Feed::Proof => b"proof",
+        Feed::Witness => b"witness",
+    }
+}
+
+/// The name of a port.
+fn port_name(port: Port) -> &'static [u8]
+    ensures { result.now ≡ port_name port }
+{
+    match port {
+        Port::Answer => b"answer",
+        Port::Proof => b"proof",
+        Port::Witness => b"witness",
+        Port::Notes => b"notes",
     }
 }
 

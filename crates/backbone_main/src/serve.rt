@@ -1,23 +1,18 @@
 //! The top calls: a run from the words of the command line to the status.
-ghost use Rattle.std.specs.Prelude.{◌≡◌, ◌≤◌, ℕ, List, [], ◌∷◌, Option, None, Ok, Err, length, map};
+ghost use Rattle.std.specs.Prelude.{◌≡◌, ℕ, Option, length, map};
 ghost use Rattle.std.specs.String.{string_bytes};
 ghost use Rattle.bone_desk.specs.Told.{Told, WritesOnly};
-ghost use Rattle.cnf_core.specs.Formulas.{Cnf};
-ghost use Rattle.lrat_log.specs.Laws.{enough};
-ghost use Rattle.dimacs_reader.specs.Feeds.{IsTooLong};
-ghost use Rattle.dimacs_reader.specs.declared.fault.Fault.{Fault};
 ghost use Rattle.bone_words.specs.Settings.{settings_of, Wanted};
-ghost use Rattle.backbone_main.specs.Words.{IsBuilt, IsNotBuilt};
 ghost use Rattle.backbone_main.specs.Notes.{note_of, GainsNote};
-ghost use Rattle.backbone_main.specs.Outcome.{ChangesItsOwn, EndsWith, IsFaultless, IsGiven, IsOneOf, Means, Serves};
-ghost use Rattle.backbone_main.specs.Outcome.{budget_of, code_of, workers_of};
+ghost use Rattle.backbone_main.specs.Endings.{code_of, workers_of};
+ghost use Rattle.backbone_main.specs.Outcome.{Serves};
 ghost use Rattle.backbone_main.specs.Steps.Finish.{Runs};
 
 use crate::ending::Ending;
 use crate::note::write_note;
 use crate::reply::deliver;
 use crate::task::read_task;
-use bone_desk::{Act, Desk, Port};
+use bone_desk::{Desk, Port};
 use chooser_core::Chooser;
 use lrat_log::laws::no_log_is_full;
 use run_core::{run_many, run_one};
@@ -30,19 +25,22 @@ use worker_loop::Gate;
 /// Worker w asks the chooser at place w, and passes the gate before each of its turns. All choosers are dropped by the
 /// end.
 ///
+/// The text is opened first, then the files that are named, the proof's before the witness's. What was found is written in
+/// the order proof, witness, answer.
+///
 /// | Status | What happened |
 /// |---|---|
-/// | 10 | the backbone was written: its literals whose variables are shown |
-/// | 20 | the formula has no model, and that was written |
-/// | 30 | a part of the backbone and the literals that are still open were written: every worker spent its budget |
-/// | 31 | that nothing is known was written: no model was found within the budget |
-/// | 40 | there was too little memory; what was known of the backbone then was written, or nothing |
-/// | 50 | the text means no formula; no answer was written |
-/// | 51 | the text has more than 2^27 bytes; no answer was written |
+/// | 10 | the backbone was written: its literals whose variables are shown; before it the files that are named |
+/// | 20 | the formula has no model, and that was written; before it the proof, where it is named, and no witness |
+/// | 30 | a part of the backbone, with its evidence, and the literals that are still open: every worker spent its budget |
+/// | 31 | that nothing is known was written, without evidence: no model was found within the budget |
+/// | 40 | there was too little memory; what was known of the backbone then was written, or a front of the proof, or nothing |
+/// | 50 | the text means no formula; nothing was written |
+/// | 51 | the text has more than 2^27 bytes; nothing was written |
 /// | 52 | not built yet: the words ask for more, and nothing was opened |
-/// | 60 | the text could not be read; no answer was written |
-/// | 61 | the answer could not be written; the port has a front of it |
-/// | 62 | the text could not be opened; no answer was written |
+/// | 60 | the text could not be read; nothing was written |
+/// | 61 | a port could not be written; it has a front of its text, those before it have all, and those behind it nothing |
+/// | 62 | the text or a file that is named could not be opened; nothing was written |
 /// | 64 | the words have no settings; nothing was done |
 ///
 /// Where several causes stand together the order is 64, 52, 62, then 60 or 51, whichever came first, 50, the end of the
@@ -93,28 +91,8 @@ pub fn report<D: Desk>(desk: &mut D, ending: Ending) -> u8
 
 /// Ends a call whose work came to this ending.
 fn conclude<D: Desk>(desk: &mut D, ending: Ending) -> u8
-    ensures ends { (workers : ℕ) (wanted : Option Wanted) (old : Told) → Runs workers wanted ending old (D.told desk.old)
-        → EndsWith workers wanted result old (D.told desk.new) }
-    ensures untouched { (workers : ℕ) (wanted : Option Wanted) (old : Told) → Runs workers wanted ending old (D.told desk.old)
-        → (IsBuilt wanted → ⊥) → WritesOnly Port.Notes old (D.told desk.new) }
-    ensures changes { (workers : ℕ) (wanted : Option Wanted) (old : Told) → Runs workers wanted ending old (D.told desk.old)
-        → ChangesItsOwn old (D.told desk.new) }
-    ensures usage { (workers : ℕ) (wanted : Option Wanted) (old : Told) → Runs workers wanted ending old (D.told desk.old)
-        → wanted ≡ None → IsOneOf result (64 ∷ 40 ∷ []) }
-    ensures not_built { (workers : ℕ) (wanted : Option Wanted) (old : Told) → Runs workers wanted ending old (D.told desk.old)
-        → IsNotBuilt wanted → IsOneOf result (52 ∷ 40 ∷ []) }
-    ensures long { (workers : ℕ) (wanted : Option Wanted) (old : Told) → Runs workers wanted ending old (D.told desk.old)
-        → (text : List ℕ) → IsBuilt wanted → IsGiven text old (D.told desk.new) → IsTooLong text → IsOneOf result (51 ∷ 40 ∷ []) }
-    ensures bad { (workers : ℕ) (wanted : Option Wanted) (old : Told) → Runs workers wanted ending old (D.told desk.old)
-        → (text : List ℕ) (fault : Fault) → IsBuilt wanted → IsGiven text old (D.told desk.new) → Means text (Err fault)
-        → IsOneOf result (50 ∷ 40 ∷ []) }
-    ensures answered { (workers : ℕ) (wanted : Option Wanted) (old : Told) → Runs workers wanted ending old (D.told desk.old)
-        → (text : List ℕ) (F : Cnf) → IsBuilt wanted → IsGiven text old (D.told desk.new) → Means text (Ok F)
-        → IsFaultless (Act.Write Port.Answer) old (D.told desk.new) → IsOneOf result (10 ∷ 20 ∷ 30 ∷ 31 ∷ 40 ∷ []) }
-    ensures bound { (workers : ℕ) (wanted : Option Wanted) (old : Told) → Runs workers wanted ending old (D.told desk.old)
-        → (text : List ℕ) (F : Cnf) → IsBuilt wanted → IsGiven text old (D.told desk.new) → Means text (Ok F)
-        → IsFaultless (Act.Write Port.Answer) old (D.told desk.new) → enough F.vars ≤ budget_of wanted
-        → IsOneOf result (10 ∷ 20 ∷ 40 ∷ []) }
+    ensures { (workers : ℕ) (wanted : Option Wanted) (old : Told) → Runs workers wanted ending old (D.told desk.old)
+        → Serves workers wanted result old (D.told desk.new) }
 {
     no_log_is_full();
     report(desk, ending)
@@ -136,7 +114,7 @@ fn run_threads<R: Threads + Sync, D: Desk, G: Gate>(
     match read_task(alloc, words, desk) {
         Ok(task) => {
             let outcome = run_many(rt, alloc, &task.formula, task.settings, choosers, gate);
-            deliver(alloc, &task.formula, outcome, desk)
+            deliver(alloc, &task.formula, task.files, outcome, desk)
         }
         Err(ending) => ending,
     }
@@ -155,7 +133,7 @@ fn run_alone<D: Desk>(
     match read_task(alloc, words, desk) {
         Ok(task) => {
             let outcome = run_one(alloc, &task.formula, task.settings, choosers);
-            deliver(alloc, &task.formula, outcome, desk)
+            deliver(alloc, &task.formula, task.files, outcome, desk)
         }
         Err(ending) => ending,
     }

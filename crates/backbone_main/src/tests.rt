@@ -3,6 +3,7 @@ ghost use Rattle.std.specs.Prelude.{◌≤◌};
 
 mod agreement;
 mod faults;
+mod files;
 mod rows;
 mod runs;
 mod stand_ins;

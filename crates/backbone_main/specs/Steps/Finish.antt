@@ -1,55 +1,70 @@
--- What a run does before its note: it reads the text, searches, and writes what was found.
-use Rattle.std.specs.Prelude.{◌≡◌, ◌≢◌, ◌^◌, ◌≤◌, ◌⊎◌, ℕ, List, Option, Some, None, Ok}
+-- What a run does before its note: it opens what is named, reads the text, and goes on from there.
+use Rattle.std.specs.Prelude.{◌≡◌, ◌^◌, ◌≤◌, ℕ, IsFalse, Option, Some, None, Ok, option_map}
 use Rattle.std.specs.String.{string_bytes}
 use Rattle.bone_desk.specs.declared.desk.Feed.{Feed}
-use Rattle.bone_desk.specs.declared.desk.Feed.TheVariants as feed
 use Rattle.bone_desk.specs.declared.desk.Port.{Port}
 use Rattle.bone_desk.specs.declared.desk.Port.TheVariants as port
-use Rattle.bone_desk.specs.declared.desk.Act.{Act}
-use Rattle.bone_desk.specs.declared.desk.Act.TheVariants.{OpenFeed, Read, Write}
-use Rattle.bone_desk.specs.Told.{Told, Rose, Gave}
-use Rattle.bone_desk.specs.Gives.{GaveFront}
-use Rattle.cnf_core.specs.Formulas.{Cnf}
-use Rattle.run_core.specs.Outcomes.{OutcomeSays}
-use Rattle.run_core.specs.declared.outcome.Outcome.{Outcome}
-use Rattle.bone_words.specs.Settings.{Wanted}
-use Rattle.backbone_main.specs.Words.{built_text, IsBuilt}
-use Rattle.backbone_main.specs.Outcome.{Accounts, AllowsEnding, AnswerOf, ReadsText, WritesNothing, workers_of, budget_of}
+use Rattle.bone_desk.specs.declared.desk.Act.TheVariants.{Read, Write}
+use Rattle.bone_desk.specs.Told.{Told, SameBytes}
+use Rattle.bone_words.specs.Settings.{Wanted, to_extract}
+use Rattle.backbone_main.specs.Words.{is_built, IsBuilt, files_of}
+use Rattle.backbone_main.specs.Endings.{AllowsEnding, workers_of, budget_of}
+use Rattle.backbone_main.specs.Outcome.{Accounts, ChangesItsOwn, ReadsText}
+use Rattle.backbone_main.specs.declared.task.Files.{Files}
 use Rattle.backbone_main.specs.declared.task.Task.{Task}
 use Rattle.backbone_main.specs.declared.task.Extraction.{Extraction}
 use Rattle.backbone_main.specs.declared.ending.Ending.{Ending}
-use Rattle.backbone_main.specs.declared.ending.Ending.TheVariants.{Complete, Unsatisfiable, Unfinished, Unknown, OutOfMemory, BadText, TooLong}
-use Rattle.backbone_main.specs.declared.ending.Ending.TheVariants.{NotBuilt, ReadFault, WriteFault, OpenFault, Usage}
 
--- before its note a run opens and reads the text, and writes the answer: nothing else changes
-pub record Touches (old new : Told) : Type 0 where
-  pub left : (f : Feed) → f ≢ feed.Text → new.left f ≡ old.left f
-  pub put : (p : Port) → p ≢ port.Answer → new.put p ≡ old.put p
-  pub counts : (a : Act) → a ≢ OpenFeed feed.Text → a ≢ Read feed.Text → a ≢ Write port.Answer
-      → new.faults a ≡ old.faults a
-  pub never_falls : (a : Act) → old.faults a ≤ new.faults a
+-- before its note a call does its own, and leaves the Notes port alone
+pub record Touches (wanted : Option Wanted) (old new : Told) : Type 0 where
+  pub own : ChangesItsOwn wanted old new
+  pub notes : new.put port.Notes ≡ old.put port.Notes
+  pub notes_count : new.faults (Write port.Notes) ≡ old.faults (Write port.Notes)
 
--- only the text was opened and read
-pub record TouchesText (old new : Told) : Type 0 where
-  pub left : (f : Feed) → f ≢ feed.Text → new.left f ≡ old.left f
+-- and before it writes it leaves all ports alone
+pub record TouchesText (wanted : Option Wanted) (old new : Told) : Type 0 where
+  pub own : ChangesItsOwn wanted old new
   pub put : (p : Port) → new.put p ≡ old.put p
-  pub counts : (a : Act) → a ≢ OpenFeed feed.Text → a ≢ Read feed.Text → new.faults a ≡ old.faults a
-  pub never_falls : (a : Act) → old.faults a ≤ new.faults a
+  pub writes : (p : Port) → new.faults (Write p) ≡ old.faults (Write p)
 
--- the text and the settings of what is wanted
-pub record IsExtractionOf (wanted : Wanted) (e : Extraction) : Type 0 where
-  pub text : built_text wanted ≡ Some (string_bytes e.text)
-  pub workers : e.settings.workers ≡ workers_of (Some wanted)
-  pub budget : e.settings.budget ≡ budget_of (Some wanted)
+-- something that is named was opened, or could not be
+pub record Opens (wanted : Option Wanted) (old new : Told) : Type 0 where
+  pub own : ChangesItsOwn wanted old new
+  pub same : SameBytes old new
+  pub reads : (f : Feed) → new.faults (Read f) ≡ old.faults (Read f)
+  pub writes : (p : Port) → new.faults (Write p) ≡ old.faults (Write p)
+
+-- nothing was read, and what was written was wanted; so is a run that ends so
+pub record WritesOwn (wanted : Option Wanted) (ending : Ending) (old new : Told) : Type 0 where
+  pub touches : Touches wanted old new
+  pub left : (f : Feed) → new.left f ≡ old.left f
+  pub allowed : AllowsEnding wanted ending
+
+-- a run ends so before its search, whatever its workers and their budget are
+pub record IsRefused (wanted : Option Wanted) (ending : Ending) (old new : Told) : Type 0 where
+  pub account : (workers budget : ℕ) (files : Files) → Accounts workers budget files ending old new
+  pub allowed : AllowsEnding wanted ending
+
+-- what an extraction was asked by
+abbrev pub asked : Extraction → Wanted
+asked e = to_extract (record {
+  text = string_bytes e.text;
+  proof = option_map string_bytes e.proof;
+  witness = option_map string_bytes e.witness;
+  workers = e.settings.workers;
+  budget = e.settings.budget;
+  seed = e.settings.seed;
+})
 
 abbrev pub IsExtraction : Wanted → Option Extraction → Type 0
-IsExtraction wanted (Some e) = IsExtractionOf wanted e
-IsExtraction wanted None = built_text wanted ≡ None
+IsExtraction wanted (Some e) = wanted ≡ asked e
+IsExtraction wanted None = IsFalse (is_built (Some wanted))
 
--- the words ask for a run over the formula of the text that was read, with these settings
+-- the words ask for a run over the formula of the text that was read, with these settings and files
 pub record IsTask (wanted : Option Wanted) (task : Task) (old new : Told) : Type 0 where
   pub built : IsBuilt wanted
   pub read : ReadsText (Ok task.formula) old new
+  pub files : task.files ≡ files_of wanted
   pub workers : task.settings.workers ≡ workers_of wanted
   pub some_workers : 1 ≤ task.settings.workers
   pub most_workers : task.settings.workers ≤ 16
@@ -57,49 +72,8 @@ pub record IsTask (wanted : Option Wanted) (task : Task) (old new : Told) : Type
   pub some_budget : 1 ≤ task.settings.budget
   pub most_budget : task.settings.budget ≤ 2 ^ 40
 
--- what a run with some workers and some budget came to
-pub record HasEnded (F : Cnf) (outcome : Outcome) : Type 0 where
-  pub workers : ℕ
-  pub budget : ℕ
-  pub says : OutcomeSays F workers budget outcome
-
--- the text was written whole, and the ending is its own; or a write failed, and the port got a front of it
-abbrev pub EndsWriting : List ℕ → Ending → Ending → Told → Told → Type 0
-EndsWriting text written ending old new =
-    ((ending ≡ written) × Gave port.Answer text old new)
-    ⊎ ((ending ≡ WriteFault) × GaveFront port.Answer text old new × Rose (Write port.Answer) old new)
-
--- the answer was written whole, or a front of it and a write failed
-pub record GivesAnswer (workers budget : ℕ) (F : Cnf) (ending : Ending) (old new : Told) : Type 0 where
-  pub text : List ℕ
-  pub answer : AnswerOf workers budget ending F text
-  pub gave : Gave port.Answer text old new
-
-pub record CutsAnswer (workers budget : ℕ) (F : Cnf) (old new : Told) : Type 0 where
-  pub text : List ℕ
-  pub ending : Ending
-  pub answer : AnswerOf workers budget ending F text
-  pub front : GaveFront port.Answer text old new
-  pub rose : Rose (Write port.Answer) old new
-
--- what was done with the formula, by the ending
-abbrev pub Finishes : ℕ → ℕ → Cnf → Ending → Told → Told → Type 0
-Finishes workers budget F Complete old new = GivesAnswer workers budget F Complete old new
-Finishes workers budget F Unsatisfiable old new = GivesAnswer workers budget F Unsatisfiable old new
-Finishes workers budget F Unfinished old new = GivesAnswer workers budget F Unfinished old new
-Finishes workers budget F Unknown old new = GivesAnswer workers budget F Unknown old new
-Finishes workers budget F OutOfMemory old new = WritesNothing old new ⊎ GivesAnswer workers budget F OutOfMemory old new
-Finishes workers budget F WriteFault old new = CutsAnswer workers budget F old new
-Finishes workers budget F (BadText fault) old new = ⊥
-Finishes workers budget F TooLong old new = ⊥
-Finishes workers budget F NotBuilt old new = ⊥
-Finishes workers budget F ReadFault old new = ⊥
-Finishes workers budget F OpenFault old new = ⊥
-Finishes workers budget F Usage old new = ⊥
-
 -- what was done for what is wanted, but for the note
 pub record Runs (workers : ℕ) (wanted : Option Wanted) (ending : Ending) (old new : Told) : Type 0 where
-  pub accounts : Accounts workers (budget_of wanted) ending old new
+  pub account : Accounts workers (budget_of wanted) (files_of wanted) ending old new
   pub allowed : AllowsEnding wanted ending
-  pub touches : Touches old new
-  pub untouched : (IsBuilt wanted → ⊥) → new ≡ old
+  pub touches : Touches wanted old new

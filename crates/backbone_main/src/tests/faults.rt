@@ -96,11 +96,10 @@ fn words_without_a_meaning_give_the_usage_alone(rt: HostRuntime) -> Result<(), F
 #[test]
 fn what_is_not_built_is_left_untouched(rt: HostRuntime) -> Result<(), Fail> {
     let alloc = rt.alloc();
-    let lists: [&[&str]; 4] = [
+    let lists: [&[&str]; 3] = [
         &["check", "f", "a", "p"],
+        &["check", "f", "a", "p", "w"],
         &["sample"],
-        &["extract", "--proof", "p", "f"],
-        &["extract", "f", "--witness="],
     ];
     for list in lists {
         for (number, desk) in run_both(&rt, alloc, list, CHAIN, 64)? {

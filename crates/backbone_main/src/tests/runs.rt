@@ -23,7 +23,7 @@ const EIGHT: &[u8] =
     b"p cnf 3 8\n1 2 3 0\n1 2 -3 0\n1 -2 3 0\n1 -2 -3 0\n-1 2 3 0\n-1 2 -3 0\n-1 -2 3 0\n-1 -2 -3 0\n";
 
 /// Variable 1, or those clauses over the others.
-const LEADING: &[u8] =
+pub const LEADING: &[u8] =
     b"p cnf 4 8\n1 2 3 4 0\n1 2 3 -4 0\n1 2 -3 4 0\n1 2 -3 -4 0\n1 -2 3 4 0\n1 -2 3 -4 0\n1 -2 -3 4 0\n1 -2 -3 -4 0\n";
 
 const LEADING_ANSWER: &[u8] = b"s SATISFIABLE\nb 1\nb 0\n";

@@ -1,10 +1,10 @@
--- The answer was written, or a front of it.
-use Rattle.answer_text.specs.AnswerText.{text_of}
+-- The reply was written, or the writing stopped.
+use Rattle.backbone_main.specs.Steps.Replies.{texts_of}
 use Rattle.backbone_main.proofs.Replies.{finishes_writing}
 use Rattle.backbone_main.proofs.reply.deliver.Goals as goal
 
 pub returns-in-Ok-clause-finishes : goal.returns-in-Ok-clause-finishes
 returns-in-Ok-clause-finishes g c = λ workers budget some says.
-    finishes_writing workers budget c.args.formula.now (text_of c.in-Ok.reply.answer) c.in-Ok.reply.ending c.write.result
+    finishes_writing workers budget c.args.files c.args.formula.now (texts_of c.in-Ok.reply) c.in-Ok.reply.ending c.write.result
     (g.D.Desk.told c.args.desk.now) (g.D.Desk.told c.write.new.desk)
-    (c.in-Ok.ensures.answer workers budget some says) c.write.ensures.writes
+    (c.in-Ok.ensures.says workers budget some says) c.write.ensures.writes

@@ -10,13 +10,14 @@ returns-in-Ok g c =
     let wanted = settings_of (map string_bytes c.args.words.now) in
     let task = c.in-Ok.task in
     let is = c.in-Ok.ensures.task in
-    runs_finished 1 task.settings.budget task.formula wanted c.deliver.result
+    runs_finished 1 task.settings.budget task.files task.formula wanted c.deliver.result
     (g.D.Desk.told c.args.desk.now) (g.D.Desk.told c.read_task.new.desk) (g.D.Desk.told c.deliver.new.desk)
-    is.built is.budget is.read c.read_task.ensures.touches c.deliver.ensures.only
+    is.budget is.files is.read c.read_task.ensures.touches
+    (c.deliver.ensures.own wanted is.built is.files)
     (c.deliver.ensures.finishes 1 task.settings.budget (omega arith) c.run_one-outcome.ensures)
 
 pub returns-in-Err : goal.returns-in-Err
 returns-in-Err g c =
     let wanted = settings_of (map string_bytes c.args.words.now) in
     runs_refused 1 wanted c.in-Err.ending (g.D.Desk.told c.args.desk.now) (g.D.Desk.told c.read_task.new.desk)
-    (c.in-Err.ensures.refused 1 _) c.in-Err.ensures.allowed c.read_task.ensures.touches c.read_task.ensures.untouched
+    c.in-Err.ensures.refused c.read_task.ensures.touches

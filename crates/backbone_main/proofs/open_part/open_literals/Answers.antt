@@ -2,7 +2,7 @@
 use Rattle.std.proofs.Common.{◌∙◌}
 use Rattle.std.proofs.lemmas.Result.{IfOk-weaker}
 use Rattle.backbone_main.proofs.Partial.{open_by_marks}
-use Rattle.backbone_main.proofs.reply.open_literals.Goals as goal
+use Rattle.backbone_main.proofs.open_part.open_literals.Goals as goal
 
 pub returns : goal.returns
 returns c =

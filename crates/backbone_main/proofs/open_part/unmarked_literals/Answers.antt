@@ -2,8 +2,8 @@
 use Rattle.std.proofs.Common.{◌+◌, Bool, sym, ap, ◌∙◌}
 use Rattle.model_store.specs.Stores.{model_at}
 use Rattle.backbone_main.proofs.Partial.{kept_pushed, kept_left}
-use Rattle.backbone_main.proofs.reply.unmarked_literals.Goals.{then-is_unmarked+in_ok-push, else-is_unmarked}
-use Rattle.backbone_main.proofs.reply.unmarked_literals.Goals as goal
+use Rattle.backbone_main.proofs.open_part.unmarked_literals.Goals.{then-is_unmarked+in_ok-push, else-is_unmarked}
+use Rattle.backbone_main.proofs.open_part.unmarked_literals.Goals as goal
 
 pub loop-i-preserved : goal.loop-i-preserved
 loop-i-preserved c =

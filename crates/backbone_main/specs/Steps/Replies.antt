@@ -1,0 +1,83 @@
+-- Replies to outcomes, and what is written of them.
+use Rattle.std.specs.Prelude.{◌≡◌, ◌<◌, ◌⊎◌, ℕ, List, [], length, All, AllPairs, IfSome, IsSome, IsTrue, Option, Some, None}
+use Rattle.bone_desk.specs.declared.desk.Port.TheVariants as port
+use Rattle.bone_desk.specs.declared.desk.Act.TheVariants.{Write}
+use Rattle.bone_desk.specs.Told.{Told}
+use Rattle.cnf_core.specs.Formulas.{Cnf}
+use Rattle.lrat_lines.specs.declared.line.Line.{Line}
+use Rattle.lrat_lines.specs.Printed.{proof_text, IsPrintable}
+use Rattle.answer_text.specs.AnswerText.{text_of}
+use Rattle.model_store.specs.Stores.{Store}
+use Rattle.model_store.specs.Witnesses.{IsInRange}
+use Rattle.model_store.specs.declared.witness.Witness.{Witness}
+use Rattle.witness_text.specs.WitnessText.{store_text}
+use Rattle.run_core.specs.Outcomes.{OutcomeSays}
+use Rattle.run_core.specs.declared.outcome.Outcome.{Outcome}
+use Rattle.bone_words.specs.Settings.{Wanted}
+use Rattle.backbone_main.specs.Words.{IsBuilt, uses}
+use Rattle.backbone_main.specs.Endings.{AllowsEnding}
+use Rattle.backbone_main.specs.Texts.{Texts}
+use Rattle.backbone_main.specs.Outcome.{GaveAll, Stops, StopsWhere, WritesAll, WritesNothing}
+use Rattle.backbone_main.specs.declared.task.Files.{Files}
+use Rattle.backbone_main.specs.declared.reply.Evidence.{Evidence}
+use Rattle.backbone_main.specs.declared.reply.Drops.{Drops}
+use Rattle.backbone_main.specs.declared.reply.Reply.{Reply}
+use Rattle.backbone_main.specs.declared.ending.Ending.{Ending}
+use Rattle.backbone_main.specs.declared.ending.Ending.TheVariants.{OutOfMemory}
+
+-- what a run with some workers and some budget came to
+pub record HasEnded (F : Cnf) (outcome : Outcome) : Type 0 where
+  pub workers : ℕ
+  pub budget : ℕ
+  pub says : OutcomeSays F workers budget outcome
+
+-- the texts of a reply
+abbrev pub proof_text_of : Option (List Line) → List ℕ
+proof_text_of None = []
+proof_text_of (Some lines) = proof_text lines
+
+abbrev pub drops_text_of : Option Drops → List ℕ
+drops_text_of None = []
+drops_text_of (Some d) = store_text d.models d.drops.items
+
+abbrev pub texts_of : Reply → Texts
+texts_of reply = record {
+  answer = text_of reply.answer;
+  proof = proof_text_of reply.evidence.proof;
+  witness = drops_text_of reply.evidence.witness;
+}
+
+-- the drops are by models of the formula, and rise by variable
+pub record HoldsDrops (F : Cnf) (d : Drops) : Type 0 where
+  pub formula : d.models.formula ≡ F
+  pub some : 0 < length d.models.models
+  pub within : All (IsInRange d.models) d.drops.items
+  pub rise : AllPairs (λ (w u : Witness). w.var < u.var) d.drops.items
+
+-- the evidence may be written
+pub record IsWritable (F : Cnf) (evidence : Evidence) : Type 0 where
+  pub printable : IfSome evidence.proof (λ lines. All IsPrintable lines)
+  pub drops : IfSome evidence.witness (HoldsDrops F)
+
+-- the evidence is wanted, and so is a run that ends so
+pub record IsWantedReply (wanted : Option Wanted) (reply : Reply) : Type 0 where
+  pub built : IsBuilt wanted
+  pub proof : IsSome reply.evidence.proof → IsTrue (uses wanted (Write port.Proof))
+  pub drops : IsSome reply.evidence.witness → IsTrue (uses wanted (Write port.Witness))
+  pub allowed : AllowsEnding wanted reply.ending
+
+-- these are the models and the drops
+pub record IsKeptDrops (s : Store) (ws : List Witness) (d : Drops) : Type 0 where
+  pub store : d.models ≡ s
+  pub list : d.drops.items ≡ ws
+
+-- the texts were written whole, and the ending is their own; or the writing stopped by another one
+abbrev pub EndsWriting : Texts → Ending → Ending → Told → Told → Type 0
+EndsWriting texts written ending old new =
+    ((ending ≡ written) × GaveAll texts old new) ⊎ StopsWhere texts ending old new
+
+-- what was done with the formula, by the ending
+abbrev pub Finishes : ℕ → ℕ → Files → Cnf → Ending → Told → Told → Type 0
+Finishes workers budget files F ending old new =
+    ((ending ≡ OutOfMemory) × WritesNothing old new)
+    ⊎ (WritesAll workers budget files ending F old new ⊎ Stops workers budget files ending F old new)
