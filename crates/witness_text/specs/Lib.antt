@@ -1,0 +1,4 @@
+pub mod WitnessText
+pub mod Reading
+pub mod Models
+pub mod Steps
