@@ -11,6 +11,7 @@ use Rattle.lrat_lines.specs.Sets.{is_same, has, IsSameSet, HasSet}
 use Rattle.lrat_lines.specs.Proofs.{Proves, reached, IsReached}
 use Rattle.lrat_lines.proofs.LiteralSets.{is_same-true, is_same_of_equal, Contains_of_has, has_of_Contains}
 use Rattle.lrat_lines.proofs.Entailment.{reached_is_entailed}
+use Rattle.lrat_lines.proofs.SameSets.{same_test}
 use Rattle.bone_check.specs.Proving.{is_just, has_none, has_unit, has_empty}
 
 -- a set that has a literal and no other is that of just this literal
@@ -76,3 +77,14 @@ pub no_models : (F : Cnf) (lines : List Line) → Proves F lines → IsTrue (has
 no_models F lines proves empty =
     models-nil F (λ a model.
     both_ways false refl (entails_clause_at F [] a (reached_is_entailed F lines [] proves ((has_empty_is F lines).0 empty)) model))
+
+-- a test that tells it is the definition
+pub has_unit_told : (F : Cnf) (lines : List Line) (l : Literal) (b : Bool) → IsTrue b ↔ IsReached F lines (l ∷ []) → b ≡ has_unit F lines l
+has_unit_told F lines l b told =
+    let is = has_unit_is F lines l in
+    same_test b (has_unit F lines l) (λ holds. is.1 (told.0 holds)) (λ holds. told.1 (is.0 holds))
+
+pub has_empty_told : (F : Cnf) (lines : List Line) (b : Bool) → IsTrue b ↔ IsReached F lines [] → b ≡ has_empty F lines
+has_empty_told F lines b told =
+    let is = has_empty_is F lines in
+    same_test b (has_empty F lines) (λ holds. is.1 (told.0 holds)) (λ holds. told.1 (is.0 holds))

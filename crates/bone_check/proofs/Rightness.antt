@@ -22,13 +22,9 @@ use Rattle.bone_check.specs.declared.verdict.Verdict.TheVariants.{Verified}
 use Rattle.bone_check.specs.Tests.{◌then◌, each_from}
 use Rattle.bone_check.specs.Proving.{has_unit, unit_fault}
 use Rattle.bone_check.specs.Witnessing.{taken_by, is_against, is_covered, variables, model_fault, drop_fault, cover_fault, some_model, witness_verdict}
+use Rattle.bone_check.specs.Laws.{IsReadable, PrintedIsRight}
 use Rattle.bone_check.proofs.TestLemmas.{verified_parts, each_passed}
 use Rattle.bone_check.proofs.Reaching.{unit_entailed}
-
--- the models have a value for each variable, and the drop lines name models and variables that are there
-pub record IsReadable (n : ℕ) (w : Witnessed) : Type 0 where
-  pub values : (a : Assignment) → Contains w.models a → length a ≡ n
-  pub named : (d : WitnessLine) → Contains w.drops d → d.model < length w.models
 
 -- what passes a test
 by_test : {X : Type 0} (b : Bool) (x : X) → (if b then None else Some x) ≡ None → IsTrue b
@@ -150,9 +146,7 @@ printed_of F lines fixed w l proves printed readable evidence shown entailed =
     (evidence.covered l.var shown))
 
 -- the printed literals are the shown members of the backbone
-pub printed_is_right : (F : Cnf) (lines : List Line) (fixed : Literals) (w : Witnessed) → Proves F lines → RisesByVar fixed
-    → IsReadable F.vars w → each_from (unit_fault F lines) 2 fixed ≡ Verified → witness_verdict F fixed w ≡ Verified
-    → (fixed ≡ shown_backbone F) × IsModel F (model_in w.models 0)
+pub printed_is_right : PrintedIsRight
 printed_is_right F lines fixed w proves rises readable units passed =
     let evidence = evidence_of F fixed w readable passed in
     let a = model_in w.models 0 in

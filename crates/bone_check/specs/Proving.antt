@@ -6,7 +6,7 @@ use Rattle.cnf_core.specs.Formulas.{Cnf, is_shown}
 use Rattle.lrat_lines.specs.declared.line.Line.{Line}
 use Rattle.lrat_lines.specs.declared.line.LineEnd.{LineEnd}
 use Rattle.lrat_lines.specs.declared.line.LineEnd.TheVariants as read
-use Rattle.lrat_lines.specs.Tokens.{tokens}
+use Rattle.lrat_lines.specs.Tokens.{is_gap}
 use Rattle.lrat_lines.specs.Grammar.{line_of}
 use Rattle.lrat_lines.specs.Sets.{is_same, has}
 use Rattle.lrat_lines.specs.Propagation.{Refusal}
@@ -18,10 +18,10 @@ use Rattle.bone_check.specs.declared.verdict.Verdict.{Verdict}
 use Rattle.bone_check.specs.declared.verdict.Verdict.TheVariants.{NotVerified}
 use Rattle.bone_check.specs.Tests.{at_place}
 
--- lines without tokens are skipped, and those whose first token begins with the letter `c`
-abbrev pub is_skipped : List (List ℕ) → Bool
+-- lines of gaps alone are skipped, and those whose first byte that is no gap is the letter `c`
+abbrev pub is_skipped : List ℕ → Bool
 is_skipped [] = true
-is_skipped (t ∷ ts) = slice_index t 0 == 99
+is_skipped (b ∷ bs) = if is_gap b then is_skipped bs else b == 99
 
 -- why a text is no line; no text means want of memory
 abbrev pub line_reason : LineEnd → Reason
@@ -50,7 +50,7 @@ with_line F lines (Err end) = Err (line_reason end)
 
 -- the lines so far and what one more line of the text says, or why it isn't taken
 abbrev pub after_text : Cnf → List Line → List ℕ → Result (List Line) Reason
-after_text F lines text = if is_skipped (tokens text) then Ok lines else with_line F lines (line_of text)
+after_text F lines text = if is_skipped text then Ok lines else with_line F lines (line_of text)
 
 -- whether the set has the literal, and no other
 abbrev pub is_just : Literal → Literals → Bool
@@ -71,3 +71,7 @@ has_empty F lines = list_any has_none (reached F lines)
 -- why a printed literal doesn't pass
 abbrev pub unit_fault : Cnf → List Line → Literal → Option Reason
 unit_fault F lines l = if is_shown F l.var then (if has_unit F lines l then None else Some NoUnit) else Some NotShown
+
+-- why there is said to be no model, and the proof doesn't show it
+abbrev pub empty_fault : Cnf → List Line → Option Reason
+empty_fault F lines = if has_empty F lines then None else Some NoEmpty

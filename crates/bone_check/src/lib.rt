@@ -5,6 +5,13 @@
 //! `specs/Laws`. Nothing here knows how the texts were made.
 #![tactic(auto)]
 
+mod chains;
+mod cover;
+mod drops;
+pub mod laws;
+mod line;
+mod models;
+mod units;
 mod verdict;
 
 pub use verdict::{CheckEnd, Reason, Verdict};
