@@ -1,8 +1,8 @@
 -- The variables of a formula, one after another, and the marks of those that are covered.
-use Rattle.std.proofs.Common.{◌≡◌, ℕ, zero, suc, ◌+◌, ◌-◌, ◌<◌, ◌≤◌, ◌==◌, Bool, false, ◌||◌, if◌then◌else◌, List, [], ◌∷◌, ◌++◌, Option, Some, None, length, replicate, Contains, refl, sym, ap, ◌∙◌, inl, inr, ⊎_elim, arith, append_assoc, get_or-replicate}
+use Rattle.std.proofs.Common.{◌≡◌, ℕ, zero, suc, ◌+◌, ◌-◌, ◌<◌, ◌≤◌, ◌==◌, Bool, false, ◌||◌, if◌then◌else◌, List, [], ◌∷◌, ◌++◌, Option, Some, None, length, replicate, Contains, refl, sym, ap, ◌∙◌, inl, inr, ⊎_elim, arith, append_assoc}
 use Rattle.std.specs.List.{list_any}
 use Rattle.std.proofs.lemmas.Bool.{cases_eq}
-use Rattle.std.proofs.lemmas.List.{length_push}
+use Rattle.std.proofs.lemmas.List.{length_push, get_or-replicate}
 use Rattle.std.proofs.lemmas.List.Elements.{Contains-append_cases}
 use Rattle.cnf_core.specs.Literals.{Literals, Assignment, value_of}
 use Rattle.cnf_core.specs.Formulas.{Cnf, is_shown}
@@ -22,7 +22,12 @@ length-variables zero = refl
 length-variables (suc n) = omega (arith, length_push (variables n) (suc n), length-variables n)
 
 variables_more : (k : ℕ) → variables (k + 1) ≡ variables k ++ (k + 1) ∷ []
-variables_more k = let e : k + 1 ≡ suc k = omega arith in rw e refl
+variables_more k =
+    let e : k + 1 ≡ suc k = omega arith in ap variables e ∙ ap (λ (n : ℕ). variables k ++ n ∷ []) (sym e)
+
+last_split : (n k : ℕ) → k ≡ n → variables (suc n) ≡ variables k ++ (k + 1) ∷ []
+last_split n k is =
+    let e : suc n ≡ k + 1 = omega arith in ap variables e ∙ variables_more k
 
 -- up to a number that isn't the last
 pub record Splits (n k : ℕ) : Type 0 where
@@ -32,7 +37,7 @@ pub record Splits (n k : ℕ) : Type 0 where
 variables_split : (n k : ℕ) → k < n → Splits n k
 variables_split zero k lt = absurd (omega arith)
 variables_split (suc n) k lt = elim (cases_eq k n) [
-  | inl is ↦ (let e : suc n ≡ k + 1 = omega arith in record { rest = []; all = rw e (variables_more k) })
+  | inl is ↦ (record { rest = []; all = last_split n k is })
   | inr other ↦
       (let before = variables_split n k (omega arith) in
       record {

@@ -3,3 +3,7 @@ pub mod Reaching
 pub mod Rightness
 pub mod Taken
 pub mod Covered
+pub mod Judged
+pub mod Chained
+pub mod Against
+pub mod Dropped

@@ -2,6 +2,8 @@
 use Rattle.std.proofs.Common.{◌≡◌, ℕ, suc, zero, ◌+◌, ◌<◌, ◌≤◌, List, [], ◌∷◌, ◌++◌, Option, Some, None, length, take, drop, get_or, Contains, take-append-drop, refl, sym, ap, ◌∙◌, subst, ⊎_elim, arith}
 use Rattle.std.proofs.lemmas.List.{take_more, drop_more, length_push, take_all}
 use Rattle.std.proofs.Common.{length-take}
+use Rattle.std.specs.Prelude.{slice_get}
+use Rattle.std.proofs.lemmas.Option.{slice_get-get_or, get_or_from_slice_get}
 use Rattle.cnf_core.proofs.Lists.{Contains-cons_cases, Contains-nil, Contains-head, Contains-tail}
 use Rattle.bone_check.specs.declared.verdict.Reason.{Reason}
 use Rattle.bone_check.specs.declared.verdict.Verdict.{Verdict}
@@ -42,10 +44,10 @@ each_append test place (x ∷ xs) ys =
     ∙ sym (then_assoc (at_place place (test x)) (each_from test (place + 1) xs) (each_from test (place + 1 + length xs) ys))
     ∙ ap (λ (p : ℕ). each_from test place (x ∷ xs) then each_from test p ys) next
 
-passes_alone : (place : ℕ) (fault : Option Reason) → fault ≡ None → (at_place place fault then Verified) ≡ Verified
+pub passes_alone : (place : ℕ) (fault : Option Reason) → fault ≡ None → (at_place place fault then Verified) ≡ Verified
 passes_alone place fault none = rw none refl
 
-fails_first : (place : ℕ) (fault : Option Reason) (reason : Reason) (later : Verdict) → fault ≡ Some reason
+pub fails_first : (place : ℕ) (fault : Option Reason) (reason : Reason) (later : Verdict) → fault ≡ Some reason
     → (at_place place fault then later) ≡ NotVerified reason place
 fails_first place fault reason later some = rw some refl
 
@@ -85,3 +87,19 @@ each_same test other place (x ∷ xs) same =
     ap (λ (fault : Option Reason). at_place place fault then each_from test (place + 1) xs) (same x (Contains-head x xs))
     ∙ ap (λ (v : Verdict). at_place place (other x) then v)
     (each_same test other (place + 1) xs (λ y there. same y (Contains-tail x xs y there)))
+
+-- the elements before a place, each of which passes
+pub each_below : {X : Type 0} (test : X → Option Reason) (place : ℕ) (xs : List X) (k : ℕ) → k ≤ length xs
+    → ((i : ℕ) (x : X) → i < k → slice_get xs i ≡ Some x → test x ≡ None) → each_from test place (take k xs) ≡ Verified
+each_below test place xs zero le pass = refl
+each_below test place xs (suc k) le pass =
+    let (x, is) = element_at xs k (omega arith) in
+    let e : k + 1 ≡ suc k = omega arith in
+    subst (λ (n : ℕ). each_from test place (take n xs) ≡ Verified) e
+    (each_next test place xs k x (omega arith) (sym (get_or_from_slice_get xs k x x is))
+    (each_below test place xs k (omega arith) (λ i y before here. pass i y (omega arith) here))
+    (pass k x (omega arith) is))
+  where
+    element_at : {X : Type 0} (xs : List X) (k : ℕ) → k < length xs → (x : X) × (slice_get xs k ≡ Some x)
+    element_at [] k lt = absurd (omega arith)
+    element_at (x ∷ xs) k lt = (get_or (x ∷ xs) k x, slice_get-get_or (x ∷ xs) k x lt)

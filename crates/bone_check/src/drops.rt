@@ -1,6 +1,6 @@
 //! The drop lines of a witness.
 ghost use Rattle.std.specs.Prelude.{◌≡◌, ◌+◌, ◌<◌, ◌≤◌, true, length, IfOk};
-ghost use Rattle.cnf_core.specs.Literals.{IsWithin};
+ghost use Rattle.cnf_core.specs.Literals.{is_true as is_true_in, IsWithin};
 ghost use Rattle.cnf_core.specs.Formulas.{Cnf, IsModel};
 ghost use Rattle.flip_literals.specs.Critical.{MarksCritical};
 ghost use Rattle.witness_text.specs.Models.{model_in};
@@ -14,12 +14,14 @@ ghost use Rattle.bone_check.specs.Steps.Dropping.{
   PassBefore,
   PassBelow,
   FailsAt,
+  flips_against,
 };
 
 use crate::chains::{Chains, line_at};
 use crate::{Reason, Verdict};
-use cnf_core::{Formula, NoMemory, Values};
+use cnf_core::{Formula, Lit, NoMemory, Values};
 use flip_literals::{Marks, critical};
+use model_check::is_true;
 use std::alloc::Global;
 use witness_text::{PackedModels, WitnessLine};
 
@@ -107,16 +109,35 @@ fn failing_before(
     let mut marked = false;
     while place < least {
         let drop = line_at(drops, place);
-        if drop.flip && !marked {
-            critical(formula, values, marks);
-            marked = true;
-        }
+        marked = mark_once(formula, values, marks, marked, drop.flip);
         if !is_against(models, values, marks, drop) {
             return place;
         }
         place = chains.next(place);
     }
     least
+}
+
+/// Marks what the model can't do without, where that is wanted and not done yet, and answers whether it is done.
+fn mark_once(
+    formula: &Formula,
+    values: &Values,
+    marks: &mut Marks,
+    marked: bool,
+    wanted: bool,
+) -> bool
+    requires model { IsModel formula.now values.now }
+    requires marks { length marks.old ≡ formula.now.vars }
+    requires marked { marked ≡ true → MarksCritical formula.now values.now marks.old }
+    ensures marks { length marks.new ≡ formula.now.vars }
+    ensures marked { result ≡ true → MarksCritical formula.now values.now marks.new }
+    ensures wanted { wanted ≡ true → result ≡ true }
+{
+    if marked || !wanted {
+        return marked;
+    }
+    critical(formula, values, marks);
+    true
 }
 
 /// Whether the line's literal is true in the first model, and false in its model, which these values are,
@@ -130,12 +151,34 @@ fn is_against(models: &PackedModels, values: &Values, marks: &Marks, drop: Witne
         → (drop.flip ≡ true → MarksCritical F values.now marks.now)
         → result ≡ is_against F models.now drop }
 {
-    let var = drop.lit.var();
-    let phase = drop.lit.positive();
-    models.value(0, var) == phase
-        && if drop.flip {
-            !marks.is(var) && values.get(var) == phase
-        } else {
-            values.get(var) != phase
-        }
+    if !is_true_in_first(models, drop.lit) {
+        return false;
+    }
+    if drop.flip {
+        return is_false_flipped(values, marks, drop.lit);
+    }
+    !is_true(drop.lit, values)
+}
+
+/// Whether the first model makes the literal true.
+fn is_true_in_first(models: &PackedModels, lit: Lit) -> bool
+    requires some { 0 < length models.now }
+    requires within { lit.var ≤ length (model_in models.now 0) }
+    ensures { result ≡ is_true_in (model_in models.now 0) lit }
+{
+    models.value(0, lit.var()) == lit.positive()
+}
+
+/// Whether the model that these values are is also one with the literal's variable flipped, and the literal is
+/// false then.
+fn is_false_flipped(values: &Values, marks: &Marks, lit: Lit) -> bool
+    requires within { IsWithin (length values.now) lit }
+    requires marks { length marks.now ≡ length values.now }
+    ensures { (F : Cnf) → IsModel F values.now → MarksCritical F values.now marks.now
+        → result ≡ flips_against F values.now lit }
+{
+    if marks.is(lit.var()) {
+        return false;
+    }
+    is_true(lit, values)
 }

@@ -1,7 +1,8 @@
 -- The drop lines, by the models that they take.
-use Rattle.std.specs.Prelude.{◌≡◌, ℕ, ◌+◌, ◌<◌, ◌≤◌, Bool, true, false, IsTrue, List, [], length, Some, slice_get, slice_index_or}
-use Rattle.cnf_core.specs.Literals.{Assignment, IsWithin}
+use Rattle.std.specs.Prelude.{◌≡◌, ℕ, ◌+◌, ◌<◌, ◌≤◌, Bool, true, false, not, ◌&&◌, IsTrue, List, [], length, Some, slice_get, slice_index_or}
+use Rattle.cnf_core.specs.Literals.{Literal, Assignment, is_true, all_true, IsWithin}
 use Rattle.cnf_core.specs.Formulas.{Cnf, IsModel}
+use Rattle.model_check.specs.Flips.{flipped}
 use Rattle.witness_text.specs.declared.line.WitnessLine.{WitnessLine}
 use Rattle.witness_text.specs.Models.{model_in}
 use Rattle.bone_check.specs.Witnessing.{is_against}
@@ -58,3 +59,7 @@ PassBelow F models drops count place =
 -- the line at this place, if there is one, doesn't pass
 abbrev pub FailsAt : Cnf → List Assignment → List WitnessLine → ℕ → Type 0
 FailsAt F models drops place = (d : WitnessLine) → slice_get drops place ≡ Some d → is_against F models d ≡ false
+
+-- whether the flipped assignment is a model in which the literal is false
+abbrev pub flips_against : Cnf → Assignment → Literal → Bool
+flips_against F a l = all_true (flipped a l.var) F.clauses && not (is_true (flipped a l.var) l)
