@@ -1,5 +1,5 @@
 -- A text cut into lines.
-use Rattle.std.specs.Prelude.{◌≡◌, ℕ, ◌==◌, Bool, true, false, if◌then◌else◌, List, [], ◌∷◌, ◌++◌}
+use Rattle.std.specs.Prelude.{◌≡◌, ◌≢◌, ℕ, ◌==◌, Bool, true, false, if◌then◌else◌, List, [], ◌∷◌, ◌++◌, All}
 
 -- a line's bytes without its line feed, and whether it has one
 pub record Line : Type 0 where
@@ -16,6 +16,10 @@ with_byte b (l ∷ ls) = record { bytes = b ∷ l.bytes; ended = l.ended } ∷ l
 abbrev pub lines_of : List ℕ → List Line
 lines_of [] = []
 lines_of (b ∷ bs) = if b == 10 then record { bytes = []; ended = true } ∷ lines_of bs else with_byte b (lines_of bs)
+
+-- no line feed is among the bytes
+abbrev pub IsPlain : List ℕ → Type 0
+IsPlain bytes = All (λ (b : ℕ). b ≢ 10) bytes
 
 -- the bytes that a line takes up
 abbrev pub text_of_line : Line → List ℕ

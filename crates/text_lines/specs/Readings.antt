@@ -1,7 +1,9 @@
 -- What a text means by a grammar that goes line by line.
-use Rattle.std.specs.Prelude.{◌≡◌, ℕ, ◌+◌, List, [], ◌∷◌, Option, Some, None, Result, Ok, Err}
+use Rattle.std.specs.Prelude.{◌≡◌, ℕ, ◌+◌, List, [], ◌∷◌, length, Option, Some, None, Result, Ok, Err}
 use Rattle.bone_desk.specs.Told.{Told}
 use Rattle.bone_desk.specs.declared.desk.Feed.{Feed}
+use Rattle.text_lines.specs.declared.feed.FeedEnd.{FeedEnd}
+use Rattle.text_lines.specs.declared.feed.FeedEnd.TheVariants as feed_end
 use Rattle.text_lines.specs.declared.read.TextEnd.{TextEnd}
 use Rattle.text_lines.specs.declared.read.TextEnd.TheVariants.{Fault, TooLong, Bad, Memory}
 use Rattle.text_lines.specs.declared.read.Refusal.{Refusal}
@@ -38,14 +40,21 @@ abbrev pub ended : {S F : Type 0} → ℕ → S → Option F → Result S (Fault
 ended n s None = Ok s
 ended n s (Some fault) = Err (record { line = n; fault = fault })
 
-abbrev pub count : List Line → ℕ
-count [] = 0
-count (l ∷ ls) = count ls + 1
-
 -- the state behind all lines, or the first line at fault
 abbrev pub reading : {S F : Type 0} → (S → Line → Result S F) → (S → Option F) → S → List ℕ → Result S (FaultAt F)
 reading step end s text =
-    steps step 1 s (lines_of text) >>= λ t. ended (count (lines_of text) + 1) t (end t)
+    steps step 1 s (lines_of text) >>= λ t. ended (length (lines_of text) + 1) t (end t)
+
+-- the answer where the feed gives no further line
+abbrev pub text_end_of : {F : Type 0} → FeedEnd → TextEnd F
+text_end_of feed_end.Fault = Fault
+text_end_of feed_end.TooLong = TooLong
+text_end_of feed_end.Memory = Memory
+
+-- the answer where a line isn't taken
+abbrev pub refused : {F : Type 0} → ℕ → Refusal F → TextEnd F
+refused line (refusal.Fault fault) = Bad line fault
+refused line refusal.Memory = Memory
 
 -- the answer to a line: what the step says, or want of memory, of which nothing is said
 abbrev pub Takes : {S F : Type 0} → Result S F → S → Result (Unit {0}) (Refusal F) → Type 0

@@ -1,9 +1,10 @@
 //! Reading a feed line by line.
 ghost use Rattle.std.specs.Prelude.{◌≡◌, ◌≤◌, ◌<◌, ◌+◌, ◌-◌, ◌^◌, ℕ, true, false, Bool, List, [], ◌∷◌, ◌++◌, length, take, drop};
-ghost use Rattle.std.specs.Prelude.{Ok, IfOk, OnOk, Contains};
+ghost use Rattle.std.specs.Prelude.{Ok, IfOk, IfErr, OnOk, Contains};
 ghost use Rattle.bone_desk.specs.Told.{Told};
-ghost use Rattle.text_lines.specs.Lines.{Line};
+ghost use Rattle.text_lines.specs.Lines.{Line, IsPlain};
 ghost use Rattle.text_lines.specs.Progress.{HasRead, Advanced, Drained, unread};
+ghost use Rattle.text_lines.specs.Steps.Onward.{IsFirstFeed, IsOnward, IsStopped, EndsAt, IsFound, reads_left};
 
 use crate::window::Window;
 use bone_desk::{Desk, Failed, Feed};
@@ -149,11 +150,18 @@ impl FeedLines {
     }
 
     /// The place of the first line feed ahead. Where there is none, more is read, up to the end of the feed.
-    fn find_line_feed<D: Desk>(&mut self, desk: &mut D) -> Result<Option<usize>, FeedEnd> {
+    fn find_line_feed<D: Desk>(&mut self, desk: &mut D) -> Result<Option<usize>, FeedEnd>
+        requires { self.old.over ≡ false }
+        ensures found { IfOk result (λ place. (more : List ℕ)
+            × IsOnward (D.told desk.old) (D.told desk.new) self.old self.new more × EndsAt self.new place) }
+        ensures err { IfErr result (λ end. IsStopped self.old.feed self.old.room (D.told desk.old) (D.told desk.new) end) }
+        ensures feed { self.new.feed ≡ self.old.feed }
+        ensures ready { Contains self.old.ahead 10 → IsFound result × (D.told desk.new ≡ D.told desk.old) }
+    {
         let mut seen = 0;
         loop {
-            if let Some(place) = memchr(b'\n', &self.window.ahead()[seen..]) {
-                return Ok(Some(seen + place));
+            if let Some(place) = line_feed_from(self.window.ahead(), seen) {
+                return Ok(Some(place));
             }
             if self.over {
                 return Ok(None);
@@ -164,7 +172,14 @@ impl FeedLines {
     }
 
     /// Reads some bytes more, or finds that the feed is at its end.
-    fn read_more<D: Desk>(&mut self, desk: &mut D) -> Result<(), FeedEnd> {
+    fn read_more<D: Desk>(&mut self, desk: &mut D) -> Result<(), FeedEnd>
+        ensures onward { OnOk result ((more : List ℕ)
+            × IsOnward (D.told desk.old) (D.told desk.new) self.old self.new more) }
+        ensures over { OnOk result (self.new.over ≡ true → self.new.ahead ≡ self.old.ahead) }
+        ensures less { OnOk result (self.old.over ≡ false → reads_left self.new < reads_left self.old) }
+        ensures err { IfErr result (λ end. IsStopped self.old.feed self.old.room (D.told desk.old) (D.told desk.new) end) }
+        ensures feed { self.new.feed ≡ self.old.feed }
+    {
         self.window.make_room()?;
         let count = self.window.fill(desk, self.feed)? as u64;
         if count > self.room {
@@ -174,4 +189,14 @@ impl FeedLines {
         self.over = count == 0;
         Ok(())
     }
+}
+
+/// The place of the first line feed, where there is none among the first bytes, which were seen already.
+fn line_feed_from(bytes: &[u8], seen: usize) -> Option<usize>
+    requires within { seen ≤ length bytes.now }
+    requires plain { IsPlain (take seen bytes.now) }
+    ensures { IsFirstFeed bytes.now result }
+{
+    let place = memchr(b'\n', &bytes[seen..])?;
+    Some(seen + place)
 }

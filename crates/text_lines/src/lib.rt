@@ -7,3 +7,6 @@ mod window;
 
 pub use feed::{FeedEnd, FeedLines};
 pub use read::{LineByLine, Refusal, TextEnd, read_lines};
+
+#[cfg(test)]
+mod tests;

@@ -1,7 +1,7 @@
 //! Texts whose grammar goes line by line.
 ghost use Rattle.std.specs.Prelude.{◌≡◌, ◌<◌, ◌^◌, ℕ, List, Option, Result, length};
 ghost use Rattle.text_lines.specs.Lines.{Line};
-ghost use Rattle.text_lines.specs.Readings.{Takes, ReadsText, reading};
+ghost use Rattle.text_lines.specs.Readings.{Takes, ReadsText, reading, refused};
 
 use crate::{FeedEnd, FeedLines};
 use bone_desk::{Desk, Feed};
@@ -30,6 +30,11 @@ pub enum TextEnd<F> {
 }
 
 impl<F> From<FeedEnd> for TextEnd<F> {
+    ghost use Rattle.std.specs.Prelude.{◌≡◌};
+    ghost use Rattle.text_lines.specs.Readings.{text_end_of};
+
+    ghost from_gives = { λ feed_end end. end ≡ text_end_of feed_end };
+
     fn from(end: FeedEnd) -> Self {
         match end {
             FeedEnd::Fault => TextEnd::Fault,
@@ -88,7 +93,9 @@ pub fn read_lines<D: Desk, R: LineByLine>(
 }
 
 /// The answer where this line wasn't taken.
-fn refused<F>(line: u64, refusal: Refusal<F>) -> TextEnd<F> {
+fn refused<F>(line: u64, refusal: Refusal<F>) -> TextEnd<F>
+    ensures { result ≡ refused line refusal }
+{
     match refusal {
         Refusal::Fault(fault) => TextEnd::Bad { line, fault },
         Refusal::Memory => TextEnd::Memory,

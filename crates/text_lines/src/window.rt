@@ -105,14 +105,34 @@ impl Window {
         ensures came { IfOk result (λ k. (bytes : List ℕ) × Came feed (D.told desk.old) (D.told desk.new) bytes
             × (length bytes ≡ k) × (self.new.ahead ≡ self.old.ahead ++ bytes)) }
         ensures end { IfOk result (λ k. k ≡ 0 → AtEnd feed (D.told desk.new)) }
-        ensures only { ReadsOnly feed (D.told desk.old) (D.told desk.new) }
+        ensures only { OnErr result (ReadsOnly feed (D.told desk.old) (D.told desk.new)) }
         ensures err { OnErr result (SameBytes (D.told desk.old) (D.told desk.new)) }
         ensures cause { OnErr result (Rose (Act.Read feed) (D.told desk.old) (D.told desk.new)) }
     {
-        let count = desk.read(feed, &mut self.bytes[self.filled..])?;
+        let count = read_behind(desk, feed, &mut self.bytes, self.filled)?;
         self.filled += count;
         Ok(count)
     }
+}
+
+/// Reads some bytes of the feed to this place and on, and answers how many; 0 is the end of the feed.
+fn read_behind<D: Desk>(
+    desk: &mut D,
+    feed: Feed,
+    bytes: &mut [u8],
+    place: usize,
+) -> Result<usize, Failed>
+    requires { place < length bytes.old }
+    ensures size { length bytes.new ≡ length bytes.old }
+    ensures front { take place bytes.new ≡ take place bytes.old }
+    ensures count { IfOk result (λ k. place + k ≤ length bytes.old) }
+    ensures came { IfOk result (λ k. Came feed (D.told desk.old) (D.told desk.new) (take k (drop place bytes.new))) }
+    ensures end { IfOk result (λ k. k ≡ 0 → AtEnd feed (D.told desk.new)) }
+    ensures only { OnErr result (ReadsOnly feed (D.told desk.old) (D.told desk.new)) }
+    ensures err { OnErr result (SameBytes (D.told desk.old) (D.told desk.new)) }
+    ensures cause { OnErr result (Rose (Act.Read feed) (D.told desk.old) (D.told desk.new)) }
+{
+    desk.read(feed, &mut bytes[place..])
 }
 
 /// Twice as many bytes, of which the first are as before.

@@ -1,0 +1,5 @@
+pub mod Lines
+mod Windows
+mod Feeds
+mod Onward
+mod Handing
