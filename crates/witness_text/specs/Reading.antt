@@ -1,18 +1,20 @@
 -- What a witness's lines tell, and which line is none. A line is given here without its line feed.
-use Rattle.std.specs.Prelude.{ℕ, ◌==◌, ◌&&◌, nat_lt, nat_le, Bool, true, false, not, if◌then◌else◌, Option, Some, None, List, [], ◌∷◌, ◌++◌, length, map, fold, codes, bytes_eq}
+use Rattle.std.specs.Prelude.{ℕ, ◌==◌, ◌&&◌, nat_lt, nat_le, Bool, true, false, not, if◌then◌else◌, Option, Some, None, List, [], ◌∷◌, ◌++◌, length, map, fold, slice_index}
 use Rattle.std.specs.List.{list_all}
 use Rattle.std.specs.Char.{is_ascii_digit}
 use Rattle.cnf_core.specs.Literals.{Literal, Assignment}
 use Rattle.cnf_core.specs.Spelling.{digits_value}
 use Rattle.witness_text.specs.declared.line.WitnessLine.{WitnessLine}
 
--- the models and the drop lines that were read
+-- so many variables, and the models and drop lines that were read
 pub record Witnessed : Type 0 where
+  pub vars : ℕ
   pub models : List Assignment
   pub drops : List WitnessLine
 
-abbrev pub none_read : Witnessed
-none_read = record { models = []; drops = [] }
+-- nothing was read
+abbrev pub none_read : ℕ → Witnessed
+none_read n = record { vars = n; models = []; drops = [] }
 
 -- whether the byte is the digit of a truth value
 abbrev pub is_bit : ℕ → Bool
@@ -22,17 +24,25 @@ is_bit b = if b == 48 then true else b == 49
 abbrev pub values_of : List ℕ → Assignment
 values_of digits = map (λ d. d == 49) digits
 
--- with the model of these digits, if they are n truth values and no drop line was read
-abbrev pub with_digits : ℕ → Witnessed → List ℕ → Option Witnessed
-with_digits n w digits =
-    if (length w.drops == 0) && ((length digits == n) && list_all is_bit digits)
-    then Some (record w { models = w.models ++ values_of digits ∷ [] }) else None
+-- with one model more
+abbrev pub with_model : Witnessed → Assignment → Witnessed
+with_model w a = record w { models = w.models ++ a ∷ [] }
 
--- whether the bytes are digits of which the first isn't 0, or one digit
+-- whether no drop line was read, and the digits are as many truth values as there are variables
+abbrev pub can_be_model : Witnessed → List ℕ → Bool
+can_be_model w digits = (length w.drops == 0) && ((length digits == w.vars) && list_all is_bit digits)
+
+-- with the model of these digits
+abbrev pub with_digits : Witnessed → List ℕ → Option Witnessed
+with_digits w digits = if can_be_model w digits then Some (with_model w (values_of digits)) else None
+
+-- whether a 0 stands before further digits
+abbrev pub is_padded : List ℕ → Bool
+is_padded ds = nat_lt 1 (length ds) && (slice_index ds 0 == 48)
+
+-- whether these are one or more digits without leading zeros
 abbrev pub is_plain : List ℕ → Bool
-is_plain [] = false
-is_plain (d ∷ []) = is_ascii_digit d
-is_plain (d ∷ e ∷ more) = not (d == 48) && list_all is_ascii_digit (d ∷ e ∷ more)
+is_plain ds = list_all is_ascii_digit ds && (nat_lt 0 (length ds) && not (is_padded ds))
 
 -- the number that plain digits write, if it is below a limit
 abbrev pub number_below : ℕ → List ℕ → Option ℕ
@@ -78,16 +88,19 @@ drop_of n count line =
 abbrev pub last_var : List WitnessLine → ℕ
 last_var drops = fold (λ _ d. d.lit.var) 0 drops
 
--- with a drop line, if there is one and its variable is above that of the last
-abbrev pub with_drop : Witnessed → Option WitnessLine → Option Witnessed
-with_drop w None = None
-with_drop w (Some d) =
-    if nat_lt (last_var w.drops) d.lit.var then Some (record w { drops = w.drops ++ d ∷ [] }) else None
+-- with one drop line more
+abbrev pub with_drop : Witnessed → WitnessLine → Witnessed
+with_drop w d = record w { drops = w.drops ++ d ∷ [] }
 
--- with what the next line tells; None: no line of a witness over n variables can stand here that is spelled so
-abbrev pub with_line : ℕ → Witnessed → List ℕ → Option Witnessed
-with_line n w [] = None
-with_line n w (b ∷ []) = if b == 109 then with_digits n w [] else None
-with_line n w (b ∷ c ∷ more) =
-    if b == 109 then with_digits n w (c ∷ more)
-    else (if (b == 100) && (c == 32) then with_drop w (drop_of n (length w.models) more) else None)
+-- with a drop line, if there is one and its variable is above that of the last
+abbrev pub with_drop_above : Witnessed → Option WitnessLine → Option Witnessed
+with_drop_above w None = None
+with_drop_above w (Some d) = if nat_lt (last_var w.drops) d.lit.var then Some (with_drop w d) else None
+
+-- with what a line tells; None: no such line can stand here
+abbrev pub with_line : Witnessed → List ℕ → Option Witnessed
+with_line w [] = None
+with_line w (b ∷ []) = if b == 109 then with_digits w [] else None
+with_line w (b ∷ c ∷ more) =
+    if b == 109 then with_digits w (c ∷ more)
+    else (if (b == 100) && (c == 32) then with_drop_above w (drop_of w.vars (length w.models) more) else None)

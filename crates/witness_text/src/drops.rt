@@ -1,11 +1,13 @@
 //! The parts of a drop line.
-ghost use Rattle.std.specs.Prelude.{◌≡◌, ◌<◌, ◌≤◌, ◌-◌, ◌^◌, ◌*◌, min, length};
+ghost use Rattle.std.specs.Prelude.{◌≡◌, ◌<◌, ◌≤◌, ◌-◌, ◌^◌, min, length};
+ghost use Rattle.std.specs.List.{list_all};
+ghost use Rattle.std.specs.Char.{is_ascii_digit};
 ghost use Rattle.cnf_core.specs.Spelling.{digits_value};
 ghost use Rattle.witness_text.specs.Reading.{
   before_space,
   behind_space,
+  is_padded,
   is_plain,
-  is_bit,
   number_below,
   signed_literal,
   literal_within,
@@ -75,18 +77,28 @@ fn read_number(digits: &[u8], limit: u64) -> Option<u64>
         return None;
     }
     let number = capped_value(digits);
-    (number < limit).then_some(number)
+    if number < limit { Some(number) } else { None }
 }
 
-/// Whether the bytes are digits of which the first isn't 0, or one digit.
+/// Whether these are one or more digits without leading zeros.
 fn is_plain(digits: &[u8]) -> bool
     ensures { result ≡ is_plain digits.now }
 {
-    match digits {
-        [] => false,
-        [digit] => digit.is_ascii_digit(),
-        [first, ..] => *first != b'0' && digits.iter().all(|digit| digit.is_ascii_digit()),
-    }
+    are_digits(digits) && !digits.is_empty() && !is_padded(digits)
+}
+
+/// Whether each byte is a digit.
+fn are_digits(bytes: &[u8]) -> bool
+    ensures { result ≡ list_all is_ascii_digit bytes.now }
+{
+    bytes.iter().all(|byte| byte.is_ascii_digit())
+}
+
+/// Whether a 0 stands before further digits.
+fn is_padded(digits: &[u8]) -> bool
+    ensures { result ≡ is_padded digits.now }
+{
+    digits.len() > 1 && digits[0] == b'0'
 }
 
 /// The number that digits write, or 2^64 - 1 where it is larger.
@@ -95,9 +107,8 @@ fn capped_value(digits: &[u8]) -> u64
 {
     let mut number = 0_u64;
     for digit in digits {
-        number = number
-            .saturating_mul(10)
-            .saturating_add(u64::from(digit.saturating_sub(b'0')));
+        let units = u64::from(digit.saturating_sub(b'0'));
+        number = number.saturating_mul(10).saturating_add(units);
     }
     number
 }

@@ -2,11 +2,18 @@
 #![tactic(auto)]
 
 mod drops;
+pub mod laws;
 mod line;
+mod lines;
 mod models;
 mod packing;
+mod read;
 mod write;
 
 pub use line::WitnessLine;
 pub use models::PackedModels;
+pub use read::{MAX_WITNESS, WitnessEnd, WitnessText, read_witness};
 pub use write::{WriteFault, write_witness};
+
+#[cfg(test)]
+mod tests;

@@ -1,4 +1,4 @@
-ghost use Rattle.std.specs.Prelude.{◌≡◌, ◌<◌, ◌≤◌, [], length, slice_index_or, IfOk};
+ghost use Rattle.std.specs.Prelude.{◌≡◌, ◌<◌, ◌≤◌, ℕ, length};
 ghost use Rattle.cnf_core.specs.Literals.{value_of};
 ghost use Rattle.witness_text.specs.Models.{model_in};
 ghost use Rattle.model_store.specs.Steps.Packed.{all_unpacked};
@@ -47,6 +47,13 @@ impl PackedModels {
         ensures { result ≡ length self.now }
     {
         self.count
+    }
+
+    /// How many values each model has.
+    pub fn vars(&self) -> u32
+        ensures { (model : ℕ) → model < length self.now → length (model_in self.now model) ≡ result }
+    {
+        self.vars
     }
 
     /// The value that the model at a place, from 0, gives a variable, from 1.

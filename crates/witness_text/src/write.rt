@@ -1,9 +1,9 @@
 //! Writing a witness to its port.
-ghost use Rattle.std.specs.Prelude.{◌≡◌, ◌+◌, ◌<◌, ◌≤◌, ◌∷◌, All, AllPairs, length, map, take, drop, decimal, OnOk, OnErr};
+ghost use Rattle.std.specs.Prelude.{◌≡◌, ◌+◌, ◌<◌, ◌≤◌, ◌^◌, ◌++◌, All, AllPairs, length, map, take, drop, decimal, OnOk, OnErr};
 ghost use Rattle.bone_desk.specs.Told.{Rose, WritesOnly, Gave};
 ghost use Rattle.bone_desk.specs.Gives.{GaveFront, Pushed, CutOff};
 ghost use Rattle.cnf_core.specs.Spelling.{literal_text};
-ghost use Rattle.model_store.specs.Stores.{model_at};
+ghost use Rattle.model_store.specs.Stores.{model_at, HoldsModels};
 ghost use Rattle.model_store.specs.Witnesses.{IsInRange};
 ghost use Rattle.witness_text.specs.WitnessText.{
   store_text,
@@ -87,7 +87,7 @@ fn push_witness<D: Desk>(
     ensures err { OnErr result (CutOff (store_text models.now drops.now) buffer.old
         (D.told desk.old) (D.told desk.new)) }
 {
-    push_models(desk, buffer, formula.vars(), models)?;
+    push_models(desk, buffer, models, formula.vars())?;
     push_drops(desk, buffer, models, drops)
 }
 
@@ -95,17 +95,18 @@ fn push_witness<D: Desk>(
 fn push_models<D: Desk>(
     desk: &mut D,
     buffer: &mut PortBuffer,
-    vars: u32,
     models: &ModelStore,
+    vars: u32,
 ) -> Result<(), Failed>
-    requires { vars ≡ models.now.formula.vars }
+    requires vars { vars ≡ models.now.formula.vars }
+    requires limit { models.now.formula.vars ≤ 2 ^ 20 }
     ensures ok { OnOk result (Pushed (model_lines models.now.models) buffer.old buffer.new
         (D.told desk.old) (D.told desk.new)) }
     ensures err { OnErr result (CutOff (model_lines models.now.models) buffer.old
         (D.told desk.old) (D.told desk.new)) }
 {
     for model in 0..models.len() {
-        push_model(desk, buffer, vars, models, model)?;
+        push_model(desk, buffer, models, model, vars)?;
     }
     Ok(())
 }
@@ -114,19 +115,21 @@ fn push_models<D: Desk>(
 fn push_model<D: Desk>(
     desk: &mut D,
     buffer: &mut PortBuffer,
-    vars: u32,
     models: &ModelStore,
     model: u32,
+    vars: u32,
 ) -> Result<(), Failed>
-    requires vars { vars ≡ models.now.formula.vars }
     requires model { model < length models.now.models }
+    requires vars { vars ≡ models.now.formula.vars }
+    requires holds { HoldsModels models.now }
+    requires limit { models.now.formula.vars ≤ 2 ^ 20 }
     ensures ok { OnOk result (Pushed (model_line (model_at models.now model)) buffer.old buffer.new
         (D.told desk.old) (D.told desk.new)) }
     ensures err { OnErr result (CutOff (model_line (model_at models.now model)) buffer.old
         (D.told desk.old) (D.told desk.new)) }
 {
     buffer.push(desk, b"m")?;
-    push_values(desk, buffer, vars, models, model)?;
+    push_values(desk, buffer, models, model, vars)?;
     buffer.push(desk, b"\n")
 }
 
@@ -134,12 +137,14 @@ fn push_model<D: Desk>(
 fn push_values<D: Desk>(
     desk: &mut D,
     buffer: &mut PortBuffer,
-    vars: u32,
     models: &ModelStore,
     model: u32,
+    vars: u32,
 ) -> Result<(), Failed>
-    requires vars { vars ≡ models.now.formula.vars }
     requires model { model < length models.now.models }
+    requires vars { vars ≡ models.now.formula.vars }
+    requires holds { HoldsModels models.now }
+    requires limit { models.now.formula.vars ≤ 2 ^ 20 }
     ensures ok { OnOk result (Pushed (map digit_of (model_at models.now model)) buffer.old buffer.new
         (D.told desk.old) (D.told desk.new)) }
     ensures err { OnErr result (CutOff (map digit_of (model_at models.now model)) buffer.old
@@ -147,7 +152,8 @@ fn push_values<D: Desk>(
 {
     for chunk in 0..vars.div_ceil(CHUNK) {
         let first = chunk * CHUNK;
-        push_chunk(desk, buffer, models, model, first, (vars - first).min(CHUNK))?;
+        let count = (vars - first).min(CHUNK);
+        push_chunk(desk, buffer, models, model, first, count)?;
     }
     Ok(())
 }
@@ -163,14 +169,15 @@ fn push_chunk<D: Desk>(
 ) -> Result<(), Failed>
     requires model { model < length models.now.models }
     requires vars { first + count ≤ models.now.formula.vars }
+    requires limit { models.now.formula.vars ≤ 2 ^ 20 }
     requires count { count ≤ 64 }
-    ensures ok { OnOk result (Pushed (map digit_of (take count (drop first (model_at models.now model)))) buffer.old buffer.new
-        (D.told desk.old) (D.told desk.new)) }
-    ensures err { OnErr result (CutOff (map digit_of (take count (drop first (model_at models.now model)))) buffer.old
-        (D.told desk.old) (D.told desk.new)) }
+    ensures ok { OnOk result (Pushed (map digit_of (take count (drop first (model_at models.now model))))
+        buffer.old buffer.new (D.told desk.old) (D.told desk.new)) }
+    ensures err { OnErr result (CutOff (map digit_of (take count (drop first (model_at models.now model))))
+        buffer.old (D.told desk.old) (D.told desk.new)) }
 {
-    let mut digits = [b'0'; CHUNK as usize];
-    let digits = &mut digits[..count as usize];
+    let mut room = [b'0'; CHUNK as usize];
+    let digits = &mut room[..count as usize];
     fill_digits(digits, models, model, first);
     buffer.push(desk, digits)
 }
@@ -179,6 +186,7 @@ fn push_chunk<D: Desk>(
 fn fill_digits(digits: &mut [u8], models: &ModelStore, model: u32, first: u32)
     requires model { model < length models.now.models }
     requires vars { first + length digits.old ≤ models.now.formula.vars }
+    requires limit { models.now.formula.vars ≤ 2 ^ 20 }
     ensures { digits.new ≡ map digit_of (take (length digits.old) (drop first (model_at models.now model))) }
 {
     for (i, digit) in digits.iter_mut().enumerate() {
@@ -202,6 +210,7 @@ fn push_drops<D: Desk>(
 ) -> Result<(), Failed>
     requires some { 0 < length models.now.models }
     requires within { All (IsInRange models.now) drops.now }
+    requires limit { models.now.formula.vars ≤ 2 ^ 20 }
     ensures ok { OnOk result (Pushed (drop_lines (named_drops models.now drops.now)) buffer.old buffer.new
         (D.told desk.old) (D.told desk.new)) }
     ensures err { OnErr result (CutOff (drop_lines (named_drops models.now drops.now)) buffer.old
@@ -217,6 +226,7 @@ fn push_drops<D: Desk>(
 fn named(models: &ModelStore, witness: Witness) -> WitnessLine
     requires some { 0 < length models.now.models }
     requires within { IsInRange models.now witness }
+    requires limit { models.now.formula.vars ≤ 2 ^ 20 }
     ensures { result ≡ named_by (model_at models.now 0) witness }
 {
     WitnessLine {
@@ -235,12 +245,25 @@ fn push_drop<D: Desk>(
     ensures ok { OnOk result (Pushed (drop_line line) buffer.old buffer.new (D.told desk.old) (D.told desk.new)) }
     ensures err { OnErr result (CutOff (drop_line line) buffer.old (D.told desk.old) (D.told desk.new)) }
 {
-    let mut digits = Buffer::new();
-    buffer.push(desk, b"d ")?;
-    buffer.push(desk, literal_bytes(&mut digits, line.lit))?;
-    buffer.push(desk, b" ")?;
-    buffer.push(desk, number_bytes(&mut digits, line.model))?;
+    let mut literal = Buffer::new();
+    let mut number = Buffer::new();
+    push_two(desk, buffer, b"d ", literal_bytes(&mut literal, line.lit))?;
+    push_two(desk, buffer, b" ", number_bytes(&mut number, line.model))?;
     buffer.push(desk, &[b' ', digit_of(line.flip), b'\n'])
+}
+
+/// Two pieces.
+fn push_two<D: Desk>(
+    desk: &mut D,
+    buffer: &mut PortBuffer,
+    first: &[u8],
+    second: &[u8],
+) -> Result<(), Failed>
+    ensures ok { OnOk result (Pushed (first.now ++ second.now) buffer.old buffer.new (D.told desk.old) (D.told desk.new)) }
+    ensures err { OnErr result (CutOff (first.now ++ second.now) buffer.old (D.told desk.old) (D.told desk.new)) }
+{
+    buffer.push(desk, first)?;
+    buffer.push(desk, second)
 }
 
 /// The literal's number, as bytes in this buffer.
