@@ -1,7 +1,9 @@
 -- The drop lines before a place, model by model.
-use Rattle.std.proofs.Common.{◌≡◌, ℕ, suc, ◌+◌, ◌<◌, ◌≤◌, true, false, IsTrue, List, Option, Some, None, length, get_or, sym, ap, ◌∙◌, subst, inl, inr, ⊎_elim, arith}
+use Rattle.std.proofs.Common.{◌≡◌, ℕ, suc, ◌+◌, ◌<◌, ◌≤◌, true, false, IsTrue, List, [], ◌∷◌, Option, Some, None, length, get_or, sym, ap, ◌∙◌, subst, inl, inr, ⊎_elim, arith}
 use Rattle.std.specs.Prelude.{slice_get}
 use Rattle.std.proofs.lemmas.Bool.{cases_eq, cases_lt}
+use Rattle.std.proofs.lemmas.List.{get_or_default}
+use Rattle.std.proofs.lemmas.Option.{slice_get-get_or}
 use Rattle.cnf_core.specs.Literals.{Assignment}
 use Rattle.cnf_core.specs.Formulas.{Cnf}
 use Rattle.witness_text.specs.declared.line.WitnessLine.{WitnessLine}
@@ -69,3 +71,16 @@ drops_fail F models drops start place d here read named pass fails =
     (each_below (drop_fault F models) start drops place (omega (arith, within_of drops place d here))
     (λ i e before there. drop_passes F models e (pass i e before there (named i e there))))
     (drop_fails F models d (fails d here))
+
+pub drops_fail_at : (F : Cnf) (models : List Assignment) (drops : List WitnessLine) (start place : ℕ) → place < length drops
+    → AreNamed (length models) drops → PassBelow F models drops (length models) place → FailsAt F models drops place
+    → each_from (drop_fault F models) start drops ≡ NotVerified NotAgainst (start + place)
+drops_fail_at F models drops start place lt named pass fails = by_line drops lt named pass fails
+  where
+    by_line : (drops : List WitnessLine) → place < length drops → AreNamed (length models) drops
+        → PassBelow F models drops (length models) place → FailsAt F models drops place
+        → each_from (drop_fault F models) start drops ≡ NotVerified NotAgainst (start + place)
+    by_line [] lt named pass fails = absurd (omega arith)
+    by_line (x ∷ xs) lt named pass fails =
+        let d : WitnessLine = get_or (x ∷ xs) place x in
+        drops_fail F models (x ∷ xs) start place d (slice_get-get_or (x ∷ xs) place x lt) (get_or_default (x ∷ xs) place x d lt) named pass fails

@@ -7,3 +7,4 @@ pub mod Judged
 pub mod Chained
 pub mod Against
 pub mod Dropped
+pub mod Proved

@@ -1,5 +1,7 @@
 pub mod Tests
 pub mod Proving
 pub mod Witnessing
-pub mod Steps
+pub mod Verdicts
+pub mod ProofFeed
 pub mod Laws
+pub mod Steps

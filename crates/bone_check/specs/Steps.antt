@@ -1,3 +1,4 @@
 pub mod Taking
 pub mod Dropping
 pub mod Covering
+pub mod Ending

@@ -11,7 +11,9 @@ mod drops;
 pub mod laws;
 mod line;
 mod models;
+mod proof;
 mod units;
 mod verdict;
 
+pub use proof::MAX_PROOF;
 pub use verdict::{CheckEnd, Reason, Verdict};

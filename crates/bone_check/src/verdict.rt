@@ -1,6 +1,8 @@
+ghost use Rattle.std.specs.Prelude.{◌≡◌};
+ghost use Rattle.bone_check.specs.declared.verdict.CheckEnd.TheVariants.{Memory};
+
 use bone_desk::Feed;
-use std::fmt;
-use std::fmt::{Display, Formatter};
+use cnf_core::NoMemory;
 
 /// Why an answer isn't verified. Each comes with a place: the number of a line, from 1, of the answer, the
 /// proof or the witness, or 1, or a variable.
@@ -65,4 +67,12 @@ pub enum CheckEnd {
     TooLong(Feed),
     /// There was no memory.
     Memory,
+}
+
+impl From<NoMemory> for CheckEnd {
+    ghost from_gives = { λ _ end. end ≡ Memory };
+
+    fn from(_error: NoMemory) -> CheckEnd {
+        CheckEnd::Memory
+    }
 }
