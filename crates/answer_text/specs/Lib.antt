@@ -1,1 +1,5 @@
 pub mod AnswerText
+pub mod Reading
+pub mod Answers
+pub mod Laws
+pub mod Steps

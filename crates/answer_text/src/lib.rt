@@ -1,10 +1,14 @@
-//! Answers as text: the verdict, and a line for each literal of the backbone, or of what is known of it.
+//! Answers as text, written and read back: the verdict, and a line for each literal of the backbone, or of what is
+//! known of it.
 #![tactic(auto)]
 
 mod answer;
+mod read;
+mod stage;
 mod write;
 
 pub use answer::Answer;
+pub use read::{ANSWER_LIMIT, AnswerEnd, read_answer};
 pub use write::{WriteFault, write_answer};
 
 #[cfg(test)]

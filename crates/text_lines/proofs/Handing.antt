@@ -1,5 +1,5 @@
 -- One line more of a feed, the end of its text, or a fault.
-use Rattle.std.proofs.Common.{◌≡◌, ◌≢◌, ℕ, suc, ◌+◌, ◌<◌, ◌≤◌, Bool, true, false, List, [], ◌∷◌, ◌++◌, length, take, drop, Ok, Err, refl, sym, ◌∙◌, ap, subst, arith, take-append-drop}
+use Rattle.std.proofs.Common.{◌≡◌, ℕ, suc, ◌+◌, Bool, true, false, List, [], ◌∷◌, ◌++◌, length, take, drop, Ok, Err, refl, sym, ◌∙◌, ap, subst, arith, take-append-drop}
 use Rattle.std.specs.Prelude.{nat_lt}
 use Rattle.std.proofs.lemmas.List.{append-nil, length-append}
 use Rattle.std.proofs.lemmas.Bool.{both_ways, lt-ltb}
@@ -9,7 +9,7 @@ use Rattle.bone_desk.proofs.Steps.{rose_later}
 use Rattle.text_lines.specs.declared.feed.FeedEnd.{FeedEnd}
 use Rattle.text_lines.specs.declared.feed.FeedEnd.TheVariants.{Fault, TooLong, Memory}
 use Rattle.text_lines.specs.Lines.{Line, lines_of, IsFront, IsPlain}
-use Rattle.text_lines.specs.Feeds.{Came, CameWhole, IsReadFault}
+use Rattle.text_lines.specs.Feeds.{Came, IsReadFault}
 use Rattle.text_lines.specs.Progress.{Progress, HasRead, IsWhole, Answered, Advanced}
 use Rattle.text_lines.specs.Steps.Onward.{IsOnward, IsStopped, IsCause, IsFeedAt}
 use Rattle.text_lines.proofs.Lines.{front_more, front_line, front_whole, lines_open}
@@ -62,14 +62,14 @@ handed {limit} {start} {b = b} {q = q} {text} {done} more k line ahead h going o
     (next_line more k h going onward still feed))
 
 -- what is left at the end of the feed is a line, unless it is nothing
-last_line : {limit : ℕ} {start b : Told} {text : List ℕ} {done : List Line} (q : Progress) (bytes : List ℕ) → Came q.feed start b text
+last_line : {limit : ℕ} {start b : Told} {text : List ℕ} (done : List Line) (q : Progress) (bytes : List ℕ) → Came q.feed start b text
     → length text + q.room ≡ limit → lines_of text ≡ done ++ lines_of bytes → IsPlain bytes → q.over ≡ true → AtEnd q.feed b
     → Answered limit start b (behind q bytes false []) text done (Ok (nat_lt 0 (length bytes)))
-last_line {done = done} q [] came room lines plain over end = record {
+last_line done q [] came room lines plain over end = record {
   came = record { within = omega (arith, room); whole = end };
   lines = lines ∙ append-nil done;
 }
-last_line {limit} {start} {b} {text} {done} q (x ∷ xs) came room lines plain over end =
+last_line {limit} {start} {b} {text} done q (x ∷ xs) came room lines plain over end =
     let line : Line = record { bytes = x ∷ xs; ended = false } in
     subst (λ (t : Bool). Answered limit start b (behind q (x ∷ xs) false []) text done (Ok t)) (sym (lt-ltb 0 (suc (length xs)) (omega arith)))
     (record {
@@ -90,7 +90,7 @@ handed_last {limit} {start} {b = b} {q = q} {text} {done} more n line ahead h go
     (subst (λ (r : List ℕ). R (length q.ahead) q.ahead r) (sym e2) (record {
       more = more;
       came = came_on more h onward;
-      answer = last_line q q.ahead (came_on more h onward) (room_on more h onward) (front_whole (front_on more h going onward)) plain over
+      answer = last_line done q q.ahead (came_on more h onward) (room_on more h onward) (front_whole (front_on more h going onward)) plain over
           (subst (λ (f : Feed). AtEnd f b) (sym onward.feed) (onward.end over));
     })))
 
@@ -108,17 +108,17 @@ handed_none {limit} {start} {a} {p} {text} {done} h over =
     }
 
 -- a fault
-stop_answer : {limit : ℕ} {start a b : Told} {p : Progress} {text : List ℕ} {done : List Line} (r : Progress) (more : List ℕ) (end : FeedEnd)
+stop_answer : {limit : ℕ} {start a b : Told} {p : Progress} {text : List ℕ} (done : List Line) (r : Progress) (more : List ℕ) (end : FeedEnd)
     → HasRead limit start a p text done → Came p.feed a b more → IsCause p.feed p.room a b more end → r.feed ≡ p.feed
     → Answered limit start b r (text ++ more) done (Err end)
-stop_answer {limit} {start} {a} {b} {p} {text} r more Fault h came cause same =
+stop_answer {limit} {start} {a} {b} {p} {text} done r more Fault h came cause same =
     let P : Feed → Type 0 = λ f. IsReadFault f limit start b (text ++ more) in
     subst P (sym same) (record {
       rose = rose_later h.came.only.counts came.only.counts cause.rose;
       within = omega (arith, h.room, cause.within, length-append text more);
     })
-stop_answer {text = text} r more TooLong h came cause same = omega (arith, h.room, cause, length-append text more)
-stop_answer r more Memory h came cause same = tt
+stop_answer {text = text} done r more TooLong h came cause same = omega (arith, h.room, cause, length-append text more)
+stop_answer done r more Memory h came cause same = tt
 
 pub handed_fault : {limit : ℕ} {start a b : Told} {p : Progress} {text : List ℕ} {done : List Line} (r : Progress) (end : FeedEnd)
     → HasRead limit start a p text done → IsStopped p.feed p.room a b end → r.feed ≡ p.feed
@@ -126,5 +126,5 @@ pub handed_fault : {limit : ℕ} {start a b : Told} {p : Progress} {text : List 
 handed_fault {limit} {start} {a} {b} {p} {text} {done} r end h stop same = record {
   more = stop.more;
   came = subst (λ (f : Feed). Came f start b (text ++ stop.more)) (sym same) (came_more text stop.more h.came stop.came);
-  answer = stop_answer r stop.more end h stop.came stop.cause same;
+  answer = stop_answer done r stop.more end h stop.came stop.cause same;
 }

@@ -3,3 +3,5 @@ mod Windows
 mod Feeds
 mod Onward
 mod Handing
+mod Draining
+pub mod Stepping

@@ -1,6 +1,6 @@
 -- Parts of the bytes that lie in memory.
-use Rattle.std.proofs.Common.{◌≡◌, ℕ, ◌+◌, ◌-◌, ◌<◌, ◌≤◌, List, [], ◌∷◌, ◌++◌, length, take, drop, min, refl, sym, ◌∙◌, ap, arith, take-append-drop, length-take}
-use Rattle.std.proofs.lemmas.List.{drop-drop, drop-take, take_at, take-take, length-append}
+use Rattle.std.proofs.Common.{◌≡◌, ℕ, ◌+◌, ◌-◌, ◌≤◌, List, ◌++◌, length, take, drop, sym, ◌∙◌, ap, arith, take-append-drop, length-take}
+use Rattle.std.proofs.lemmas.List.{drop-drop, drop-take, take_at, take-take}
 
 -- what is behind some bytes of a part that ends at a place
 pub part_behind : (xs : List ℕ) (from to n skipped : ℕ) (part : List ℕ) → take (to - from) (drop from xs) ≡ part → n + skipped ≤ length part

@@ -1,4 +1,3 @@
-use Rattle.text_lines.proofs.Onward.{stopped_behind, onward_none}
 -- The first line feed behind the bytes that were seen.
 use Rattle.std.proofs.lemmas.List.{take_rest}
 use Rattle.text_lines.proofs.Feeds.{plain_whole, feed_at}

@@ -1,6 +1,5 @@
-use Rattle.text_lines.proofs.Handing.{handed_fault}
 -- A line feed is found, or more is read, or no more can be.
-use Rattle.std.proofs.Common.{◌≡◌, List, ℕ, length, ◌∙◌, ap, sym, subst}
+use Rattle.std.proofs.Common.{List, ℕ, length, ◌∙◌, ap, sym, subst}
 use Rattle.std.proofs.lemmas.Result.{err_from_is_err_and}
 use Rattle.text_lines.specs.Lines.{IsPlain}
 use Rattle.text_lines.specs.Progress.{Progress}

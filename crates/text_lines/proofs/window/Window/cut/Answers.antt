@@ -1,6 +1,5 @@
-use Rattle.text_lines.proofs.Lines.{lines_few, lines_join, front_line}
 -- What is ahead begins behind the line.
-use Rattle.std.proofs.Common.{◌≡◌, ◌≤◌, ◌+◌, ◌-◌, List, ℕ, length, drop, take, ap, ◌∙◌, arith, length-take, length-drop}
+use Rattle.std.proofs.Common.{ap}
 use Rattle.text_lines.specs.Steps.Window.{Held}
 use Rattle.text_lines.proofs.Windows.{part_behind}
 use Rattle.text_lines.proofs.window.Window.cut.Goals as goal

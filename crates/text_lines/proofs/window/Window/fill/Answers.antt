@@ -1,5 +1,5 @@
 -- The bytes that came stand behind those ahead.
-use Rattle.std.proofs.Common.{◌≡◌, ◌+◌, ◌-◌, List, ℕ, length, drop, take, ap, ◌∙◌, arith, length-take, length-drop}
+use Rattle.std.proofs.Common.{◌≡◌, List, ℕ, length, drop, take, ap, ◌∙◌, arith, length-take, length-drop}
 use Rattle.text_lines.specs.Steps.Window.{Held}
 use Rattle.text_lines.proofs.Windows.{part_more}
 use Rattle.text_lines.proofs.window.Window.fill.Goals as goal
