@@ -27,17 +27,19 @@ use Rattle.bone_check.specs.Steps.Taking.{TextSays}
 use Rattle.bone_check.specs.Steps.Ending.{proof_end, untaken_at}
 
 -- steps over lines, and then over more
+append_by : {S F : Type 0} (step : S → text.Line → Result S F) (n : ℕ) (s : S) (x : text.Line) (xs ys : List text.Line) (r : Result S F)
+    → step s x ≡ r
+    → ((t : S) → steps step (n + 1) t (xs ++ ys) ≡ (steps step (n + 1) t xs >>= λ u. steps step (n + 1 + length xs) u ys))
+    → steps step n s ((x ∷ xs) ++ ys) ≡ (steps step n s (x ∷ xs) >>= λ u. steps step (n + suc (length xs)) u ys)
+append_by step n s x xs ys (Ok t) is rest =
+    let place : n + 1 + length xs ≡ n + suc (length xs) = omega arith in
+    rw is (rest t ∙ ap (λ (k : ℕ). steps step (n + 1) t xs >>= λ u. steps step k u ys) place)
+append_by step n s x xs ys (Err e) is rest = rw is refl
+
 pub steps_append : {S F : Type 0} (step : S → text.Line → Result S F) (n : ℕ) (s : S) (xs ys : List text.Line)
     → steps step n s (xs ++ ys) ≡ (steps step n s xs >>= λ t. steps step (n + length xs) t ys)
 steps_append step n s [] ys = ap (λ (k : ℕ). steps step k s ys) (omega arith)
-steps_append {S} {F} step n s (x ∷ xs) ys = by_first (step s x) refl
-  where
-    by_first : (r : Result S F) → step s x ≡ r
-        → steps step n s ((x ∷ xs) ++ ys) ≡ (steps step n s (x ∷ xs) >>= λ t. steps step (n + length (x ∷ xs)) t ys)
-    by_first (Ok t) is =
-        let place : n + 1 + length xs ≡ n + suc (length xs) = omega arith in
-        rw is (steps_append step (n + 1) t xs ys ∙ ap (λ (k : ℕ). steps step (n + 1) t xs >>= λ u. steps step k u ys) place)
-    by_first (Err e) is = rw is refl
+steps_append step n s (x ∷ xs) ys = append_by step n s x xs ys (step s x) refl (λ t. steps_append step (n + 1) t xs ys)
 
 -- a text has no more lines than bytes
 length-with_byte : (b : ℕ) (ls : List text.Line) → length (with_byte b ls) ≤ length ls + 1
@@ -62,10 +64,10 @@ read_count limit start now p came done read =
 pub record IsChecking (F : Cnf) (start now : Told) (p : Progress) (kept : Kept) (count : ℕ) (came : List ℕ) (done : List text.Line)
   (taken : List Line) : Type 0 where
   pub read : HasRead proof_limit start now p came done
-  pub feed : p.feed ≡ feed.Proof
-  pub steps : steps (text_step F) 1 [] done ≡ Ok taken
+  pub on : p.feed ≡ feed.Proof
+  pub so_far : steps (text_step F) 1 [] done ≡ Ok taken
   pub stands : StandsFor kept F taken
-  pub count : count ≡ length done
+  pub counted : count ≡ length done
 
 -- one line more
 pub checking_next : (F : Cnf) (start now : Told) (p : Progress) (old new : Kept) (count : ℕ) (came : List ℕ) (done : List text.Line)
@@ -75,13 +77,13 @@ pub checking_next : (F : Cnf) (start now : Told) (p : Progress) (old new : Kept)
     → IsChecking F start now p new (count + 1) came (done ++ p.line ∷ []) after
 checking_next F start now p old new count came done taken after so_far is read on leads stands = record {
   read = read;
-  feed = on;
-  steps =
+  on = on;
+  so_far =
       steps_append (text_step F) 1 [] done (p.line ∷ [])
       ∙ ap (λ (r : Result (List Line) (FaultAt Reason)). r >>= λ t. steps (text_step F) (1 + length done) t (p.line ∷ [])) so_far
       ∙ ap (λ (r : Result (List Line) Reason). at_line (1 + length done) r >>= λ t. Ok t) leads;
   stands = stands;
-  count = omega (arith, length_push done p.line);
+  counted = omega (arith, length_push done p.line);
 }
 
 -- all lines were taken

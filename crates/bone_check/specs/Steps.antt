@@ -2,3 +2,5 @@ pub mod Taking
 pub mod Dropping
 pub mod Covering
 pub mod Ending
+pub mod Evidence
+pub mod Parts

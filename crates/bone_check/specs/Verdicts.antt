@@ -7,7 +7,13 @@ use Rattle.text_lines.specs.Lines as text
 use Rattle.text_lines.specs.Readings.{FaultAt, steps}
 use Rattle.witness_text.specs.Reading.{Witnessed}
 use Rattle.bone_check.specs.declared.verdict.Reason.{Reason}
-use Rattle.bone_check.specs.declared.verdict.Reason.TheVariants.{WitnessLine}
+use Rattle.witness_text.specs.Texts.{witness_reading}
+use Rattle.answer_text.specs.declared.stage.Stage.{Stage}
+use Rattle.answer_text.specs.declared.stage.Stage.TheVariants as stage
+use Rattle.answer_text.specs.declared.stage.LineFault.{LineFault}
+use Rattle.answer_text.specs.declared.stage.LineFault.TheVariants as answer
+use Rattle.answer_text.specs.Reading.{Read, reading_of}
+use Rattle.bone_check.specs.declared.verdict.Reason.TheVariants.{BadLine, NotSorted, Unfinished, WitnessLine}
 use Rattle.bone_check.specs.declared.verdict.Verdict.{Verdict}
 use Rattle.bone_check.specs.declared.verdict.Verdict.TheVariants.{NotVerified}
 use Rattle.bone_check.specs.Tests.{at_place, ◌then◌, each_from}
@@ -43,3 +49,29 @@ evidence_verdict F fixed (Ok w) = witness_verdict F fixed w
 abbrev pub sat_verdict : Cnf → Literals → Result (List Line) (FaultAt Reason) → Result Witnessed (FaultAt (Unit {0})) → Verdict
 sat_verdict F fixed (Err fault) witness = NotVerified fault.fault fault.line
 sat_verdict F fixed (Ok lines) witness = each_from (unit_fault F lines) 2 fixed then evidence_verdict F fixed witness
+
+-- the verdict on a text that reads as an answer. It says that there is no model, or prints these literals; a part of
+-- a backbone is not enough. A text doesn't end at any other stage
+abbrev pub answer_verdict : Cnf → Stage → Literals → Result (List Line) (FaultAt Reason) → Result Witnessed (FaultAt (Unit {0})) → Verdict
+answer_verdict F stage.Unsat fixed proof witness = unsat_verdict F proof witness
+answer_verdict F stage.Sat fixed proof witness = sat_verdict F fixed proof witness
+answer_verdict F stage.Partial fixed proof witness = NotVerified Unfinished 1
+answer_verdict F stage.Unknown fixed proof witness = NotVerified Unfinished 1
+answer_verdict F stage.First fixed proof witness = NotVerified BadLine 1
+answer_verdict F stage.Backbone fixed proof witness = NotVerified BadLine 1
+answer_verdict F stage.Fixed fixed proof witness = NotVerified BadLine 1
+answer_verdict F stage.Still fixed proof witness = NotVerified BadLine 1
+
+abbrev pub answer_reason : LineFault → Reason
+answer_reason answer.Bad = BadLine
+answer_reason answer.NotSorted = NotSorted
+
+abbrev pub read_verdict : Cnf → Result Read (FaultAt LineFault) → Result (List Line) (FaultAt Reason) → Result Witnessed (FaultAt (Unit {0}))
+    → Verdict
+read_verdict F (Err fault) proof witness = NotVerified (answer_reason fault.fault) fault.line
+read_verdict F (Ok r) proof witness = answer_verdict F r.stage r.fixed proof witness
+
+-- the verdict on an answer, a proof and a witness, from the formula alone: the first test that fails, or that none does
+unfoldable pub verdict_of : Cnf → List ℕ → List ℕ → List ℕ → Verdict
+verdict_of F answer proof witness =
+    read_verdict F (reading_of F.vars answer) (proof_reading F proof) (witness_reading F.vars witness)

@@ -6,14 +6,18 @@
 #![tactic(auto)]
 
 mod chains;
+mod check;
 mod cover;
 mod drops;
+mod evidence;
 pub mod laws;
 mod line;
 mod models;
 mod proof;
 mod units;
 mod verdict;
+mod witness;
 
+pub use check::check_all;
 pub use proof::MAX_PROOF;
 pub use verdict::{CheckEnd, Reason, Verdict};
