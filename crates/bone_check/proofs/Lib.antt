@@ -8,3 +8,5 @@ pub mod Chained
 pub mod Against
 pub mod Dropped
 pub mod Proved
+pub mod Witnessed
+pub mod Verified

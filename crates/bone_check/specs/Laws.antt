@@ -1,5 +1,5 @@
 -- The statements of the laws.
-use Rattle.std.specs.Prelude.{◌≡◌, ℕ, ◌<◌, List, length, Contains}
+use Rattle.std.specs.Prelude.{◌≡◌, ℕ, ◌<◌, ◌≤◌, ◌^◌, List, length, Contains, Ok}
 use Rattle.cnf_core.specs.Literals.{Literals, Assignment, RisesByVar}
 use Rattle.cnf_core.specs.Formulas.{Cnf, IsModel, shown_backbone}
 use Rattle.lrat_lines.specs.declared.line.Line.{Line}
@@ -11,6 +11,10 @@ use Rattle.bone_check.specs.declared.verdict.Verdict.TheVariants.{Verified}
 use Rattle.bone_check.specs.Tests.{each_from}
 use Rattle.bone_check.specs.Proving.{unit_fault}
 use Rattle.bone_check.specs.Witnessing.{witness_verdict}
+use Rattle.bone_check.specs.Verdicts.{verdict_of}
+use Rattle.answer_text.specs.declared.stage.Stage.TheVariants as stage
+use Rattle.answer_text.specs.AnswerText.{sat_text, unsat_text, answer_text}
+use Rattle.answer_text.specs.Reading.{Read, reading_of}
 
 -- the models have a value for each of n variables, and the drop lines name models that are there
 pub record IsReadable (n : ℕ) (w : Witnessed) : Type 0 where
@@ -22,3 +26,16 @@ abbrev pub PrintedIsRight : Type 0
 PrintedIsRight = (F : Cnf) (lines : List Line) (fixed : Literals) (w : Witnessed) → Proves F lines → RisesByVar fixed
     → IsReadable F.vars w → each_from (unit_fault F lines) 2 fixed ≡ Verified → witness_verdict F fixed w ≡ Verified
     → (fixed ≡ shown_backbone F) × IsModel F (model_in w.models 0)
+
+-- what reads as an answer is its text
+pub record AnswersAreTexts : Type 0 where
+  pub unsat : (vars : ℕ) (text : List ℕ) (r : Read) → vars ≤ 2 ^ 20 → reading_of vars text ≡ Ok r → r.stage ≡ stage.Unsat
+      → text ≡ unsat_text
+  pub sat : (vars : ℕ) (text : List ℕ) (r : Read) → vars ≤ 2 ^ 20 → reading_of vars text ≡ Ok r → r.stage ≡ stage.Sat
+      → (text ≡ sat_text r.fixed) × RisesByVar r.fixed
+
+-- a verified answer is the formula's, whatever the proof and the witness hold: that it has no model, or the shown
+-- members of its backbone
+abbrev pub VerifiedIsRight : Type 0
+VerifiedIsRight = (F : Cnf) (answer proof witness : List ℕ) → F.vars ≤ 2 ^ 20 → verdict_of F answer proof witness ≡ Verified
+    → answer ≡ answer_text F

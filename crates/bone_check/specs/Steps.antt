@@ -4,3 +4,4 @@ pub mod Covering
 pub mod Ending
 pub mod Evidence
 pub mod Parts
+pub mod Verified

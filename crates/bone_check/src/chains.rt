@@ -35,7 +35,7 @@ impl Chains {
         let mut next = vec![in alloc; drops.len(); drops.len()]?;
         for place in (0..drops.len()).rev() {
             let model = line_at(drops, place).model as usize;
-            next[place] = first[model];
+            next[place] = place_at(&first, model);
             first[model] = place;
         }
         Ok(Chains { first, next })
@@ -64,4 +64,12 @@ pub fn line_at(drops: &[WitnessLine], place: usize) -> WitnessLine
     ensures { slice_get drops.now place ≡ Some result }
 {
     drops[place]
+}
+
+/// The place of this number.
+fn place_at(places: &[usize], number: usize) -> usize
+    requires { number < length places.now }
+    ensures { result ≡ link places.now number }
+{
+    places[number]
 }

@@ -8,7 +8,7 @@ ghost use Rattle.bone_check.specs.declared.verdict.Verdict.TheVariants.{NotVerif
 use crate::evidence::{Evidence, read_evidence};
 use crate::proof::{ProofEnd, check_proof};
 use crate::units::judge_units;
-use crate::witness::judge_witness;
+use crate::witness::{is_verified, judge_witness};
 use crate::{CheckEnd, Reason, Verdict};
 use answer_text::{Answer, AnswerEnd, read_answer};
 use bone_desk::{Desk, Feed};
@@ -96,7 +96,7 @@ fn check_sat<D: Desk>(
         ProofEnd::Fails { reason, line } => return Ok(not_verified(reason, line)),
     };
     let units = judge_units(formula, &checker, fixed);
-    if units != Verdict::Verified {
+    if !is_verified(units) {
         return Ok(units);
     }
     match read_evidence(alloc, desk, formula.vars(), witness)? {

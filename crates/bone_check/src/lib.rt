@@ -21,3 +21,6 @@ mod witness;
 pub use check::check_all;
 pub use proof::MAX_PROOF;
 pub use verdict::{CheckEnd, Reason, Verdict};
+
+#[cfg(test)]
+mod tests;
