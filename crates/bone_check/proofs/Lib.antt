@@ -10,3 +10,5 @@ pub mod Dropped
 pub mod Proved
 pub mod Witnessed
 pub mod Verified
+pub mod Gathered
+pub mod Concluded

@@ -1,6 +1,6 @@
 -- Why a verified answer is right.
-use Rattle.std.proofs.Common.{◌≡◌, ◌≢◌, ℕ, ◌+◌, ◌≤◌, ◌^◌, Bool, true, false, if◌then◌else◌, IsTrue, List, [], ◌∷◌, ◌++◌, Option, Some, None, Result, Ok, Err, length, Contains, refl, sym, ap, ◌∙◌, subst, ⊎_elim}
-use Rattle.std.specs.Prelude.{IsOk}
+use Rattle.std.proofs.Common.{◌≡◌, ◌≢◌, ℕ, ◌+◌, ◌≤◌, ◌^◌, Bool, true, false, if◌then◌else◌, IsTrue, List, [], ◌∷◌, ◌++◌, Option, Some, None, Result, Ok, Err, length, Contains, refl, sym, ap, ◌∙◌, subst, inl, inr, ⊎_elim}
+use Rattle.std.specs.Prelude.{IsOk, is_ok}
 use Rattle.std.proofs.lemmas.Bool.{cases_Bool}
 use Rattle.std.proofs.lemmas.List.Elements.{All-contains}
 use Rattle.cnf_core.specs.Literals.{Literals, Assignment, RisesByVar}
@@ -41,7 +41,7 @@ use Rattle.bone_check.proofs.Rightness.{printed_is_right}
 taken_proves : (F : Cnf) (lines after : List Line) (r : Result Progress Refusal) → checked F lines ≡ r → unless_refused lines r ≡ Ok after
     → Proves F after
 taken_proves F lines after (Ok p) is taken =
-    let same : lines ≡ after = cc in subst (λ (ls : List Line). Proves F ls) same (rw is tt)
+    let same : lines ≡ after = cc in subst (λ (ls : List Line). Proves F ls) same (ap is_ok is)
 taken_proves F lines after (Err refusal) is taken = absurd (cc)
 
 line_proves : (F : Cnf) (lines after : List Line) (given : Result Line LineEnd) → with_line F lines given ≡ Ok after → Proves F after
@@ -54,14 +54,14 @@ text_proves F lines after bytes proves taken = elim (cases_Bool (is_skipped byte
   | inr read ↦ line_proves F lines after (line_of bytes) (rw read at taken)
 ]
 
-steps_prove : (F : Cnf) (n : ℕ) (lines after : List Line) (ls : List text.Line) → Proves F lines → steps (text_step F) n lines ls ≡ Ok after
-    → Proves F after
 first_proves : (F : Cnf) (n : ℕ) (lines after : List Line) (l : text.Line) (ls : List text.Line) (r : Result (List Line) Reason) → Proves F lines
     → after_text F lines l.bytes ≡ r → ((next : List Line) → Proves F next → steps (text_step F) (n + 1) next ls ≡ Ok after → Proves F after)
     → (at_line n r >>= λ t. steps (text_step F) (n + 1) t ls) ≡ Ok after → Proves F after
 first_proves F n lines after l ls (Ok next) proves is onward taken = onward next (text_proves F lines next l.bytes proves is) taken
 first_proves F n lines after l ls (Err reason) proves is onward taken = absurd (cc)
 
+steps_prove : (F : Cnf) (n : ℕ) (lines after : List Line) (ls : List text.Line) → Proves F lines → steps (text_step F) n lines ls ≡ Ok after
+    → Proves F after
 steps_prove F n lines after [] proves taken = let is : lines ≡ after = cc in subst (λ (ls : List Line). Proves F ls) is proves
 steps_prove F n lines after (l ∷ ls) proves taken =
     first_proves F n lines after l ls (after_text F lines l.bytes) proves refl
@@ -70,7 +70,7 @@ steps_prove F n lines after (l ∷ ls) proves taken =
 pub proof_proves : (F : Cnf) (proof : List ℕ) (lines : List Line) → proof_reading F proof ≡ Ok lines → Proves F lines
 unfolding proof_reading
 proof_proves F proof lines taken =
-    let none : Proves F [] = rw (checked-nil F) tt in
+    let none : Proves F [] = ap is_ok (checked-nil F) in
     steps_prove F 1 [] lines (text.lines_of proof) none taken
 
 -- what a text of a witness tells can be read

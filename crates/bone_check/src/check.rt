@@ -1,8 +1,10 @@
 //! The answer, the proof and the witness of a formula, each from its feed.
-ghost use Rattle.std.specs.Prelude.{◌≡◌};
+ghost use Rattle.std.specs.Prelude.{◌≡◌, ℕ};
 ghost use Rattle.cnf_core.specs.Literals.{AreWithin};
 ghost use Rattle.bone_check.specs.Checks.{ChecksBy, ChecksAll};
+ghost use Rattle.bone_check.specs.Verdicts.{no_lines};
 ghost use Rattle.bone_check.specs.Steps.Parts.{unsat_on, sat_on};
+ghost use Rattle.bone_check.specs.Steps.Evidence.{reading_told, IsReadEvidence, JudgesEvidence};
 ghost use Rattle.bone_check.specs.declared.verdict.Verdict.TheVariants.{NotVerified};
 
 use crate::evidence::{Evidence, read_evidence};
@@ -12,7 +14,7 @@ use crate::witness::{is_verified, judge_witness};
 use crate::{CheckEnd, Reason, Verdict};
 use answer_text::{Answer, AnswerEnd, read_answer};
 use bone_desk::{Desk, Feed};
-use cnf_core::{Formula, Lit};
+use cnf_core::{Formula, Lit, NoMemory};
 use std::alloc::Global;
 
 /// Judges the answer in the Answer feed by the proof in the Proof feed and, where `witness` says so, by the witness in
@@ -60,23 +62,20 @@ fn check_unsat<D: Desk>(
 ) -> Result<Verdict, CheckEnd>
     ensures { ChecksBy witness (D.told desk.old) (D.told desk.new) (unsat_on formula.now witness) result }
 {
-    let checker = match check_proof(alloc, formula, desk)? {
+    let proof = match check_proof(alloc, formula, desk) {
+        Ok(proof) => proof,
+        Err(end) => return Err(end),
+    };
+    let checker = match proof {
         ProofEnd::Taken(checker) => checker,
         ProofEnd::Fails { reason, line } => return Ok(not_verified(reason, line)),
     };
     if !checker.has_empty() {
         return Ok(not_verified(Reason::NoEmpty, 1));
     }
-    match read_evidence(alloc, desk, formula.vars(), witness)? {
-        Evidence::Unasked => Ok(Verdict::Verified),
-        Evidence::BadLine(line) => Ok(not_verified(Reason::WitnessLine, line)),
-        Evidence::Tells(text) => {
-            if text.models.len() == 0 && text.drops.is_empty() {
-                Ok(Verdict::Verified)
-            } else {
-                Ok(not_verified(Reason::WitnessLine, 1))
-            }
-        }
+    match read_evidence(alloc, desk, formula.vars(), witness) {
+        Ok(evidence) => Ok(judge_lack(&evidence)),
+        Err(end) => Err(end),
     }
 }
 
@@ -91,7 +90,11 @@ fn check_sat<D: Desk>(
     requires { AreWithin formula.now.vars fixed.now }
     ensures { ChecksBy witness (D.told desk.old) (D.told desk.new) (sat_on formula.now witness fixed.now) result }
 {
-    let checker = match check_proof(alloc, formula, desk)? {
+    let proof = match check_proof(alloc, formula, desk) {
+        Ok(proof) => proof,
+        Err(end) => return Err(end),
+    };
+    let checker = match proof {
         ProofEnd::Taken(checker) => checker,
         ProofEnd::Fails { reason, line } => return Ok(not_verified(reason, line)),
     };
@@ -99,9 +102,46 @@ fn check_sat<D: Desk>(
     if !is_verified(units) {
         return Ok(units);
     }
-    match read_evidence(alloc, desk, formula.vars(), witness)? {
+    match read_evidence(alloc, desk, formula.vars(), witness) {
+        Ok(evidence) => judge_evidence(alloc, formula, fixed, &evidence),
+        Err(end) => Err(end),
+    }
+}
+
+/// Whether the witness has no lines.
+fn judge_lack(evidence: &Evidence) -> Verdict
+    ensures { (n : ℕ) → result ≡ no_lines (reading_told n evidence.now) }
+{
+    match evidence {
+        Evidence::Unasked => Verdict::Verified,
+        Evidence::BadLine(line) => not_verified(Reason::WitnessLine, *line),
+        Evidence::Tells(text) => {
+            if text.models.len() == 0 && text.drops.is_empty() {
+                Verdict::Verified
+            } else {
+                not_verified(Reason::WitnessLine, 1)
+            }
+        }
+    }
+}
+
+/// Whether the witness reads, and passes its tests.
+fn judge_evidence(
+    alloc: Global,
+    formula: &Formula,
+    fixed: &[Lit],
+    evidence: &Evidence,
+) -> Result<Verdict, CheckEnd>
+    requires fixed { AreWithin formula.now.vars fixed.now }
+    requires evidence { IsReadEvidence formula.now.vars evidence.now }
+    ensures { JudgesEvidence formula.now fixed.now evidence.now result }
+{
+    match evidence {
         Evidence::Unasked => Ok(not_verified(Reason::NoModel, 1)),
-        Evidence::BadLine(line) => Ok(not_verified(Reason::WitnessLine, line)),
-        Evidence::Tells(text) => Ok(judge_witness(alloc, formula, fixed, &text)?),
+        Evidence::BadLine(line) => Ok(not_verified(Reason::WitnessLine, *line)),
+        Evidence::Tells(text) => match judge_witness(alloc, formula, fixed, text) {
+            Ok(verdict) => Ok(verdict),
+            Err(NoMemory) => Err(CheckEnd::Memory),
+        },
     }
 }

@@ -7,6 +7,11 @@ use Rattle.text_lines.specs.Readings.{FaultAt}
 use Rattle.witness_text.specs.declared.read.WitnessText.{WitnessText}
 use Rattle.witness_text.specs.Reading.{Witnessed, none_read}
 use Rattle.witness_text.specs.Texts.{witness_reading, told_by}
+use Rattle.witness_text.specs.Told.{IsWitness}
+use Rattle.cnf_core.specs.Literals.{Literals}
+use Rattle.cnf_core.specs.Formulas.{Cnf}
+use Rattle.bone_check.specs.declared.verdict.Verdict.{Verdict}
+use Rattle.bone_check.specs.Verdicts.{evidence_verdict}
 use Rattle.bone_check.specs.declared.verdict.CheckEnd.{CheckEnd}
 use Rattle.bone_check.specs.declared.verdict.CheckEnd.TheVariants.{Fault, TooLong, Memory}
 use Rattle.bone_check.specs.declared.evidence.Evidence.{Evidence}
@@ -42,3 +47,16 @@ pub record ReadsEvidence (n : ℕ) (witness : Bool) (old new : Told) (result : R
   pub text : List ℕ
   pub came : Came feed.Witness old new text
   pub answer : EvidenceSays n witness old new text result
+
+-- what is told is a witness
+abbrev pub IsReadEvidence : ℕ → Evidence → Type 0
+IsReadEvidence n Unasked = Unit {0}
+IsReadEvidence n (Tells w) = IsWitness n (told_by n w)
+IsReadEvidence n (BadLine line) = Unit {0}
+
+-- the verdict on the evidence, or want of memory
+abbrev pub JudgesEvidence : Cnf → Literals → Evidence → Result Verdict CheckEnd → Type 0
+JudgesEvidence F fixed evidence (Ok verdict) = verdict ≡ evidence_verdict F fixed (reading_told F.vars evidence)
+JudgesEvidence F fixed evidence (Err Memory) = Unit {0}
+JudgesEvidence F fixed evidence (Err (Fault f)) = ⊥
+JudgesEvidence F fixed evidence (Err (TooLong f)) = ⊥

@@ -7,9 +7,6 @@ use Rattle.bone_check.specs.Steps.Dropping.{HaveValues}
 use Rattle.bone_check.proofs.Witnessed.{verified_of, stops, goes_on, no_model_first, some_model_first, have_values, are_models}
 use Rattle.bone_check.proofs.witness.judge_witness.Goals as goal
 
-pub judge_models-requires-clause-models : goal.judge_models-requires-clause-models
-judge_models-requires-clause-models c = have_values c.args.formula.now.vars c.args.text.now.models c.requires.text.models
-
 pub judge_lines-requires-clause-models : goal.judge_lines-requires-clause-models
 judge_lines-requires-clause-models c =
     are_models c.args.formula.now c.args.text.now.models c.requires.text.models
