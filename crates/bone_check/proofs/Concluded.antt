@@ -29,9 +29,10 @@ use Rattle.bone_check.specs.Tests.{at_place, ◌then◌, each_from}
 use Rattle.bone_check.specs.Proving.{has_empty, empty_fault, unit_fault}
 use Rattle.bone_check.specs.Verdicts.{unsat_verdict, no_lines, sat_verdict, evidence_verdict}
 use Rattle.bone_check.specs.ProofFeed.{ReadsProof, ProofSays}
-use Rattle.bone_check.specs.Checks.{Texts, Says, ChecksBy, limit_of}
+use Rattle.bone_check.specs.Checks.{Texts, Says, limit_of}
+use Rattle.bone_check.specs.Steps.Parts.{texts_of, ChecksRest}
 use Rattle.bone_check.specs.Steps.Evidence.{ReadsEvidence, EvidenceSays, reading_told, IsReadEvidence, JudgesEvidence}
-use Rattle.bone_check.proofs.Gathered.{texts_of, came_none, all_came, Judge, judged_on, fails_in_proof, decided_by_proof, decided_by_both}
+use Rattle.bone_check.proofs.Gathered.{came_none, all_came, Judge, judged_on, fails_in_proof, decided_by_proof, decided_by_both}
 
 proof_end_says : (F : Cnf) (witness : Bool) (old new : Told) (text : List ℕ) (means : Texts → Verdict) (end : CheckEnd)
     → ProofSays F old new text (Err end) → Says witness old new (texts_of [] text []) means (Err end)
@@ -42,9 +43,11 @@ proof_end_says F witness old new text means Memory said = tt
 
 -- the proof wasn't read
 pub proof_ends : (F : Cnf) (witness : Bool) (old new : Told) (means : Texts → Verdict) (end : CheckEnd) → ReadsProof F old new (Err end)
-    → ChecksBy witness old new means (Err end)
+    → ChecksRest witness old new means (Err end)
 proof_ends F witness old new means end reads = record {
-  came = texts_of [] reads.text [];
+  proof = reads.text;
+  evidence = [];
+  answer_left = reads.came.only.left feed.Answer (λ e. cc e);
   all = all_came old old new new [] reads.text [] (came_none feed.Answer old) reads.came (came_none feed.Witness new);
   says = proof_end_says F witness old new reads.text means end reads.answer;
 }
@@ -52,9 +55,11 @@ proof_ends F witness old new means end reads = record {
 -- one of its lines fails
 pub proof_fails : (F : Cnf) (witness : Bool) (old new : Told) (judge : Judge) (reason : Reason) (line : ℕ)
     → ((e : FaultAt Reason) (w : Result Witnessed (FaultAt (Unit {0}))) → judge (Err e) w ≡ NotVerified e.fault e.line)
-    → ReadsProof F old new (Ok (Fails reason line)) → ChecksBy witness old new (judged_on F witness judge) (Ok (NotVerified reason line))
+    → ReadsProof F old new (Ok (Fails reason line)) → ChecksRest witness old new (judged_on F witness judge) (Ok (NotVerified reason line))
 proof_fails F witness old new judge reason line decides reads = record {
-  came = texts_of [] reads.text [];
+  proof = reads.text;
+  evidence = [];
+  answer_left = reads.came.only.left feed.Answer (λ e. cc e);
   all = all_came old old new new [] reads.text [] (came_none feed.Answer old) reads.came (came_none feed.Witness new);
   says = fails_in_proof F witness judge new reads.text reason line decides reads.answer;
 }
@@ -62,9 +67,11 @@ proof_fails F witness old new judge reason line decides reads = record {
 -- what it reaches decides
 pub proof_decides : (F : Cnf) (witness : Bool) (old new : Told) (judge : Judge) (kept : Kept) (verdict : Verdict)
     → ((lines : List Line) → StandsFor kept F lines → (w : Result Witnessed (FaultAt (Unit {0}))) → judge (Ok lines) w ≡ verdict)
-    → ReadsProof F old new (Ok (Taken kept)) → ChecksBy witness old new (judged_on F witness judge) (Ok verdict)
+    → ReadsProof F old new (Ok (Taken kept)) → ChecksRest witness old new (judged_on F witness judge) (Ok verdict)
 proof_decides F witness old new judge kept verdict decides reads = record {
-  came = texts_of [] reads.text [];
+  proof = reads.text;
+  evidence = [];
+  answer_left = reads.came.only.left feed.Answer (λ e. cc e);
   all = all_came old old new new [] reads.text [] (came_none feed.Answer old) reads.came (came_none feed.Witness new);
   says = decided_by_proof F witness judge new reads.text kept verdict reads.answer (decides reads.answer.lines reads.answer.stands);
 }
@@ -82,9 +89,11 @@ evidence_end_says F witness old mid new n proof text means Memory same said = tt
 
 -- the witness wasn't read
 pub evidence_ends : (F : Cnf) (witness : Bool) (old mid new : Told) (n : ℕ) (means : Texts → Verdict) (kept : Kept) (end : CheckEnd)
-    → ReadsProof F old mid (Ok (Taken kept)) → ReadsEvidence n witness mid new (Err end) → ChecksBy witness old new means (Err end)
+    → ReadsProof F old mid (Ok (Taken kept)) → ReadsEvidence n witness mid new (Err end) → ChecksRest witness old new means (Err end)
 evidence_ends F witness old mid new n means kept end reads tells = record {
-  came = texts_of [] reads.text tells.text;
+  proof = reads.text;
+  evidence = tells.text;
+  answer_left = tells.came.only.left feed.Answer (λ e. cc e) ∙ reads.came.only.left feed.Answer (λ e. cc e);
   all = all_came old old mid new [] reads.text tells.text (came_none feed.Answer old) reads.came tells.came;
   says = evidence_end_says F witness old mid new n reads.text tells.text means end
       (reads.came.only.counts.others (Read feed.Witness) (λ e. cc e)) tells.answer;
@@ -94,9 +103,11 @@ evidence_ends F witness old mid new n means kept end reads tells = record {
 pub both_decide : (F : Cnf) (witness : Bool) (old mid new : Told) (judge : Judge) (kept : Kept) (evidence : Evidence) (verdict : Verdict)
     → ((lines : List Line) → StandsFor kept F lines → judge (Ok lines) (reading_told F.vars evidence) ≡ verdict)
     → ReadsProof F old mid (Ok (Taken kept)) → ReadsEvidence F.vars witness mid new (Ok evidence)
-    → ChecksBy witness old new (judged_on F witness judge) (Ok verdict)
+    → ChecksRest witness old new (judged_on F witness judge) (Ok verdict)
 both_decide F witness old mid new judge kept evidence verdict decides reads tells = record {
-  came = texts_of [] reads.text tells.text;
+  proof = reads.text;
+  evidence = tells.text;
+  answer_left = tells.came.only.left feed.Answer (λ e. cc e) ∙ reads.came.only.left feed.Answer (λ e. cc e);
   all = all_came old old mid new [] reads.text tells.text (came_none feed.Answer old) reads.came tells.came;
   says = decided_by_both F witness judge mid new reads.text tells.text kept evidence verdict reads.answer tells.came tells.answer
       (decides reads.answer.lines reads.answer.stands);
@@ -123,14 +134,16 @@ pub evidence_judged : (F : Cnf) (witness : Bool) (old mid new : Told) (fixed : L
     (result : Result Verdict CheckEnd) {units : Verdict}
     → ((lines : List Line) → StandsFor kept F lines → each_from (unit_fault F lines) 2 fixed ≡ units) → is_verified units ≡ true
     → ReadsProof F old mid (Ok (Taken kept)) → ReadsEvidence F.vars witness mid new (Ok evidence) → JudgesEvidence F fixed evidence result
-    → ChecksBy witness old new (judged_on F witness (sat_verdict F fixed)) result
+    → ChecksRest witness old new (judged_on F witness (sat_verdict F fixed)) result
 evidence_judged F witness old mid new fixed kept evidence (Ok verdict) {units} passed verified reads tells judged =
     both_decide F witness old mid new (sat_verdict F fixed) kept evidence verdict
     (λ lines stands.
     ap (λ (v : Verdict). v then evidence_verdict F fixed (reading_told F.vars evidence)) (passed lines stands)
     ∙ sym (goes_on units (evidence_verdict F fixed (reading_told F.vars evidence)) verified) ∙ sym judged) reads tells
 evidence_judged F witness old mid new fixed kept evidence (Err Memory) passed verified reads tells judged = record {
-  came = texts_of [] reads.text tells.text;
+  proof = reads.text;
+  evidence = tells.text;
+  answer_left = tells.came.only.left feed.Answer (λ e. cc e) ∙ reads.came.only.left feed.Answer (λ e. cc e);
   all = all_came old old mid new [] reads.text tells.text (came_none feed.Answer old) reads.came tells.came;
   says = tt;
 }

@@ -23,14 +23,8 @@ use Rattle.bone_check.specs.declared.evidence.Evidence.{Evidence}
 use Rattle.bone_check.specs.Verdicts.{proof_reading}
 use Rattle.bone_check.specs.ProofFeed.{IsLeft, IsTaken, IsUntaken}
 use Rattle.bone_check.specs.Checks.{Texts, AllCame, limit_of, IsVerdict}
+use Rattle.bone_check.specs.Steps.Parts.{texts_of}
 use Rattle.bone_check.specs.Steps.Evidence.{IsEvidenceOf, IsWhole, reading_told}
-
--- the texts of the three feeds
-abbrev pub texts_of : (answer proof witness : List ℕ) → Texts
-texts_of answer proof witness feed.Text = []
-texts_of answer proof witness feed.Answer = answer
-texts_of answer proof witness feed.Proof = proof
-texts_of answer proof witness feed.Witness = witness
 
 pub came_none : (f : Feed) (t : Told) → Came f t t []
 came_none f t = record { took = took_none f t; only = reads_none f t }
@@ -88,7 +82,7 @@ judged_on F witness judge texts =
     judge (proof_reading F (texts feed.Proof)) (witness_reading F.vars (if witness then texts feed.Witness else []))
 
 -- what is left of a feed that is at its end
-at_end : (f : Feed) (t : Told) (came rest : List ℕ) → AtEnd f t → IsLeft f t rest → came ++ rest ≡ came
+pub at_end : (f : Feed) (t : Told) (came rest : List ℕ) → AtEnd f t → IsLeft f t rest → came ++ rest ≡ came
 at_end f t came rest ended left =
     let none : rest ≡ [] = rw left at ended in ap (λ (r : List ℕ). came ++ r) none ∙ append-nil came
 

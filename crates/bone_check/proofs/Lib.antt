@@ -12,3 +12,4 @@ pub mod Witnessed
 pub mod Verified
 pub mod Gathered
 pub mod Concluded
+pub mod Answered

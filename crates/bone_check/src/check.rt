@@ -1,9 +1,9 @@
 //! The answer, the proof and the witness of a formula, each from its feed.
 ghost use Rattle.std.specs.Prelude.{◌≡◌, ℕ};
 ghost use Rattle.cnf_core.specs.Literals.{AreWithin};
-ghost use Rattle.bone_check.specs.Checks.{ChecksBy, ChecksAll};
+ghost use Rattle.bone_check.specs.Checks.{ChecksAll};
 ghost use Rattle.bone_check.specs.Verdicts.{no_lines};
-ghost use Rattle.bone_check.specs.Steps.Parts.{unsat_on, sat_on};
+ghost use Rattle.bone_check.specs.Steps.Parts.{unsat_on, sat_on, ChecksRest};
 ghost use Rattle.bone_check.specs.Steps.Evidence.{reading_told, IsReadEvidence, JudgesEvidence};
 ghost use Rattle.bone_check.specs.declared.verdict.Verdict.TheVariants.{NotVerified};
 
@@ -60,7 +60,7 @@ fn check_unsat<D: Desk>(
     desk: &mut D,
     witness: bool,
 ) -> Result<Verdict, CheckEnd>
-    ensures { ChecksBy witness (D.told desk.old) (D.told desk.new) (unsat_on formula.now witness) result }
+    ensures { ChecksRest witness (D.told desk.old) (D.told desk.new) (unsat_on formula.now witness) result }
 {
     let proof = match check_proof(alloc, formula, desk) {
         Ok(proof) => proof,
@@ -88,7 +88,7 @@ fn check_sat<D: Desk>(
     witness: bool,
 ) -> Result<Verdict, CheckEnd>
     requires { AreWithin formula.now.vars fixed.now }
-    ensures { ChecksBy witness (D.told desk.old) (D.told desk.new) (sat_on formula.now witness fixed.now) result }
+    ensures { ChecksRest witness (D.told desk.old) (D.told desk.new) (sat_on formula.now witness fixed.now) result }
 {
     let proof = match check_proof(alloc, formula, desk) {
         Ok(proof) => proof,

@@ -10,8 +10,7 @@ use Rattle.bone_check.specs.declared.proof.ProofEnd.{ProofEnd}
 use Rattle.bone_check.specs.declared.evidence.Evidence.{Evidence}
 use Rattle.bone_check.specs.Verdicts.{unsat_verdict, sat_verdict}
 use Rattle.bone_check.specs.ProofFeed.{ReadsProof}
-use Rattle.bone_check.specs.Checks.{ChecksBy}
-use Rattle.bone_check.specs.Steps.Parts.{unsat_on, sat_on}
+use Rattle.bone_check.specs.Steps.Parts.{unsat_on, sat_on, ChecksRest}
 use Rattle.bone_check.specs.Steps.Evidence.{ReadsEvidence, JudgesEvidence}
 use Rattle.bone_check.proofs.Reaching.{has_empty_told}
 use Rattle.bone_check.proofs.Witnessed.{stops, goes_on}
@@ -37,11 +36,11 @@ returns-in-Fails g c =
     let new = g.D.Desk.told c.check_proof.new.desk in
     let reads = subst (λ (r : Result ProofEnd CheckEnd). ReadsProof F old new r)
     (c.in-Ok.is ∙ ap (λ (p : ProofEnd). Ok p) c.in-Fails.is) c.check_proof.ensures in
-    subst (λ (v : Verdict). ChecksBy c.args.witness old new (sat_on F c.args.witness c.args.fixed.now) (Ok v)) (sym c.not_verified.ensures)
+    subst (λ (v : Verdict). ChecksRest c.args.witness old new (sat_on F c.args.witness c.args.fixed.now) (Ok v)) (sym c.not_verified.ensures)
     (proof_fails F c.args.witness old new (sat_verdict F c.args.fixed.now) c.in-Fails.reason c.in-Fails.line (λ e w. refl) reads)
 
-pub returns-in-Err-read_evidence : goal.returns-in-Err-read_evidence
-returns-in-Err-read_evidence g c =
+pub returns : goal.returns
+returns g c =
     let F = c.args.formula.now in
     let old = g.D.Desk.told c.args.desk.now in
     let mid = g.D.Desk.told c.check_proof.new.desk in
