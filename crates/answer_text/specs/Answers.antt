@@ -2,9 +2,7 @@
 use Rattle.std.specs.Prelude.{◌≡◌, ◌^◌, ℕ, List, Result, Ok, Err}
 use Rattle.bone_desk.specs.Told.{Told}
 use Rattle.bone_desk.specs.declared.desk.Feed.TheVariants as feed
-use Rattle.cnf_core.specs.Literals.{Literals}
 use Rattle.text_lines.specs.Feeds.{Came, CameWhole, IsReadFault, IsTooLong}
-use Rattle.text_lines.specs.Readings.{FaultAt}
 use Rattle.answer_text.specs.declared.answer.Answer.{Answer}
 use Rattle.answer_text.specs.declared.answer.Answer.TheVariants.{Unsat, Sat, Partial, Unknown}
 use Rattle.answer_text.specs.declared.stage.Stage.TheVariants as stage

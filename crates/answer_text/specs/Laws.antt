@@ -1,6 +1,6 @@
 -- The statements of the laws on answers and their texts.
 use Rattle.std.specs.Prelude.{◌≡◌, ◌≤◌, ◌^◌, ℕ, List, Ok}
-use Rattle.cnf_core.specs.Literals.{Literals, AreWithin}
+use Rattle.cnf_core.specs.Literals.{AreWithin}
 use Rattle.answer_text.specs.declared.answer.Answer.{Answer}
 use Rattle.answer_text.specs.declared.answer.Answer.TheVariants.{Unsat, Sat, Partial, Unknown}
 use Rattle.answer_text.specs.AnswerText.{text_of, IsInOrder}

@@ -7,8 +7,8 @@ ghost use Rattle.answer_text.specs.Answers.{ReadsAnswer, Says};
 ghost use Rattle.cnf_core.specs.Spelling.{number_of_digits};
 ghost use Rattle.text_lines.specs.Readings.{Takes};
 
-use crate::stage::{LineFault, Stage};
 use crate::Answer;
+use crate::stage::{LineFault, Stage};
 use bone_desk::{Desk, Feed};
 use cnf_core::Lit;
 use std::alloc::{AllocError, Global};
@@ -267,7 +267,12 @@ impl Reader {
         requires { end_at self.stage ≡ None }
         ensures { Says self result }
     {
-        let Reader { stage, fixed, still, .. } = self;
+        let Reader {
+            stage,
+            fixed,
+            still,
+            ..
+        } = self;
         match stage {
             Stage::Sat => Answer::Sat(fixed),
             Stage::Partial => Answer::Partial { fixed, still },
@@ -309,8 +314,14 @@ impl From<TextEnd<LineFault>> for AnswerEnd {
         match end {
             TextEnd::Fault => AnswerEnd::Fault,
             TextEnd::TooLong => AnswerEnd::TooLong,
-            TextEnd::Bad { line, fault: LineFault::Bad } => AnswerEnd::BadLine(line),
-            TextEnd::Bad { line, fault: LineFault::NotSorted } => AnswerEnd::NotSorted(line),
+            TextEnd::Bad {
+                line,
+                fault: LineFault::Bad,
+            } => AnswerEnd::BadLine(line),
+            TextEnd::Bad {
+                line,
+                fault: LineFault::NotSorted,
+            } => AnswerEnd::NotSorted(line),
             TextEnd::Memory => AnswerEnd::Memory,
         }
     }

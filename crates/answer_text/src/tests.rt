@@ -8,6 +8,8 @@ use cnf_core::Lit;
 use std::alloc::{AllocError, Global};
 use std::test::Fail;
 
+mod reading;
+
 const BACKBONE: &[u8] = b"s SATISFIABLE\nb 1\nb -32\nb 1048576\nb 0\n";
 
 const UNFINISHED: &[u8] = b"s PARTIAL\nb 2\nu -1\nu 30\nb 0\n";

@@ -16,8 +16,8 @@ plain_at : (bytes hay : List ℕ) (seen k i : ℕ) → hay ≡ drop seen bytes �
 plain_at bytes hay seen k i is plain nowhere low within e = elim (cases_lt i seen) [
   | inl before ↦ All-get_or IsNoFeed (take seen bytes) i 0 (omega (arith, length-take seen bytes)) plain (get_or-take seen bytes i 0 before ∙ e)
   | inr behind ↦ nowhere (i - seen) (omega arith) (omega arith) (eq-eqb (get_or hay (i - seen) 0) 10
-    (ap (λ (h : List ℕ). get_or h (i - seen) 0) is ∙ get_or-drop seen bytes (i - seen) 0
-    ∙ ap (λ (n : ℕ). get_or bytes n 0) (to_place seen i behind) ∙ e))
+      (ap (λ (h : List ℕ). get_or h (i - seen) 0) is ∙ get_or-drop seen bytes (i - seen) 0
+      ∙ ap (λ (n : ℕ). get_or bytes n 0) (to_place seen i behind) ∙ e))
 ]
   where
     to_place : (a b : ℕ) → a ≤ b → a + (b - a) ≡ b

@@ -104,4 +104,4 @@ seeking_more {old} {now} {new} {before} {p} {q} {seen} ys so_far plain then rest
 -- a line feed is found before the end of the feed was met
 pub found_going : {old now : Told} {before p : Progress} {seen k : ℕ} → IsSeeking old now before p seen → IsFeedAt p.ahead k → p.over ≡ false
 found_going {p = p} {seen} {k} so_far feed = false_from_ne_true p.over (λ (over : p.over ≡ true). plain_no_feed p.ahead k
-  (All-same (λ (b : ℕ). b ≢ 10) p.ahead (take seen p.ahead) (sym (take_all seen p.ahead (omega (arith, so_far.over over)))) so_far.plain) feed)
+    (All-same (λ (b : ℕ). b ≢ 10) p.ahead (take seen p.ahead) (sym (take_all seen p.ahead (omega (arith, so_far.over over)))) so_far.plain) feed)

@@ -78,16 +78,16 @@ read_few {p = p} {text} {done} h =
 
 -- the reader has taken all lines so far
 pub record IsStepping
-  {S F : Type 0}
-  (step : S → Line → Result S F)
-  (s : S)
-  (feed : Feed)
-  (limit : ℕ)
-  (old now : Told)
-  (p : Progress)
-  (count : ℕ)
-  (t : S)
-  : Type 0 where
+    {S F : Type 0}
+    (step : S → Line → Result S F)
+    (s : S)
+    (feed : Feed)
+    (limit : ℕ)
+    (old now : Told)
+    (p : Progress)
+    (count : ℕ)
+    (t : S)
+    : Type 0 where
   pub text : List ℕ
   pub done : List Line
   pub read : HasRead limit old now p text done

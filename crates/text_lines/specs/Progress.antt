@@ -48,13 +48,13 @@ Answered limit start now p text done (Err Memory) = Unit {0}
 
 -- behind the text so far these bytes came, and what the answer says
 pub record Advanced
-  (limit : ℕ)
-  (start now : Told)
-  (p : Progress)
-  (text : List ℕ)
-  (done : List Line)
-  (result : Result Bool FeedEnd)
-  : Type 0 where
+    (limit : ℕ)
+    (start now : Told)
+    (p : Progress)
+    (text : List ℕ)
+    (done : List Line)
+    (result : Result Bool FeedEnd)
+    : Type 0 where
   pub more : List ℕ
   pub came : Came p.feed start now (text ++ more)
   pub answer : Answered limit start now p (text ++ more) done result
@@ -73,13 +73,13 @@ DrainedTo feed limit start now text done (Err TooLong) = IsTooLong limit text
 DrainedTo feed limit start now text done (Err Memory) = Unit {0}
 
 pub record Drained
-  (feed : Feed)
-  (limit : ℕ)
-  (start now : Told)
-  (text : List ℕ)
-  (done : List Line)
-  (result : Result (Unit {0}) FeedEnd)
-  : Type 0 where
+    (feed : Feed)
+    (limit : ℕ)
+    (start now : Told)
+    (text : List ℕ)
+    (done : List Line)
+    (result : Result (Unit {0}) FeedEnd)
+    : Type 0 where
   pub more : List ℕ
   pub came : Came feed start now (text ++ more)
   pub answer : DrainedTo feed limit start now (text ++ more) done result

@@ -64,7 +64,7 @@ Takes given new (Err refusal.Memory) = Unit {0}
 
 -- the whole text came, and this is what it means
 pub record IsReadAs {S F : Type 0} (feed : Feed) (limit : ℕ) (now : Told) (text : List ℕ) (means given : Result S (FaultAt F))
-  : Type 0 where
+    : Type 0 where
   pub came : CameWhole feed limit now text
   pub reading : means ≡ given
 
@@ -80,7 +80,7 @@ Answers feed limit old new text means s (Err Memory) = Unit {0}
 
 -- the text that came of the feed, and what the answer says of it, where `means` is the meaning of each text
 pub record ReadsText {S F : Type 0} (feed : Feed) (limit : ℕ) (old new : Told) (means : List ℕ → Result S (FaultAt F)) (s : S)
-  (result : Result (Unit {0}) (TextEnd F)) : Type 0 where
+    (result : Result (Unit {0}) (TextEnd F)) : Type 0 where
   pub text : List ℕ
   pub came : Came feed old new text
   pub answer : Answers feed limit old new text (means text) s result

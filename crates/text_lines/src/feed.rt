@@ -67,11 +67,11 @@ impl Model for FeedLines {
     ghost Value = { Progress };
 
     ghost view = { λ r. record {
-        feed = r.feed;
-        line = record { bytes = r.window.line; ended = r.ended };
-        ahead = r.window.ahead;
-        room = r.room;
-        over = r.over;
+      feed = r.feed;
+      line = record { bytes = r.window.line; ended = r.ended };
+      ahead = r.window.ahead;
+      room = r.room;
+      over = r.over;
     } };
 }
 

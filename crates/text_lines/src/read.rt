@@ -88,7 +88,10 @@ pub fn read_lines<D: Desk, R: LineByLine>(
     }
     match reader.finish() {
         None => Ok(()),
-        Some(fault) => Err(TextEnd::Bad { line: count + 1, fault }),
+        Some(fault) => Err(TextEnd::Bad {
+            line: count + 1,
+            fault,
+        }),
     }
 }
 

@@ -33,9 +33,9 @@ impl Model for Window {
     ghost Value = { Held };
 
     ghost view = { λ w. record {
-        line = take (w.end - w.start) (drop w.start w.bytes.items);
-        ahead = take (w.filled - w.next) (drop w.next w.bytes.items);
-        free = vec_len w.bytes - w.filled;
+      line = take (w.end - w.start) (drop w.start w.bytes.items);
+      ahead = take (w.filled - w.next) (drop w.next w.bytes.items);
+      free = vec_len w.bytes - w.filled;
     } };
 
     ghost invariant = { λ w. (w.start ≤ w.end) × (w.end ≤ w.next) × (w.next ≤ w.filled) × (w.filled ≤ vec_len w.bytes) };

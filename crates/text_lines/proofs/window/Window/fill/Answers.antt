@@ -10,8 +10,13 @@ returns-clause-came g c =
     let new = c.read_behind.new.bytes in
     let came : List ℕ = take count (drop c.self.inside.filled new) in
     let size : length came ≡ count =
-    omega (arith, length-take count (drop c.self.inside.filled new), length-drop c.self.inside.filled new, c.in_ok-count.ensures.count,
-    c.read_behind.ensures.size) in (
+    omega (
+      arith,
+      length-take count (drop c.self.inside.filled new),
+      length-drop c.self.inside.filled new,
+      c.in_ok-count.ensures.count,
+      c.read_behind.ensures.size,
+    ) in (
       came,
       c.in_ok-count.ensures.came,
       size,
