@@ -19,6 +19,7 @@ use Rattle.answer_text.specs.declared.stage.Stage.TheVariants as stage
 use Rattle.answer_text.specs.declared.stage.LineFault.{LineFault}
 use Rattle.answer_text.specs.AnswerText.{sat_text, unsat_text, answer_text}
 use Rattle.answer_text.specs.Reading.{Read, reading_of}
+use Rattle.answer_text.proofs.SoFar.{unsat_read, sat_read}
 use Rattle.answer_text.proofs.Verdicts.{answer_text-sat, answer_text-unsat}
 use Rattle.witness_text.specs.declared.line.WitnessLine.{WitnessLine}
 use Rattle.witness_text.specs.Reading.{Witnessed}
@@ -32,7 +33,7 @@ use Rattle.bone_check.specs.Tests.{at_place, ◌then◌, each_from}
 use Rattle.bone_check.specs.Proving.{is_skipped, unless_refused, with_line, after_text, has_empty, empty_fault, unit_fault}
 use Rattle.bone_check.specs.Witnessing.{witness_verdict}
 use Rattle.bone_check.specs.Verdicts.{text_step, proof_reading, no_lines, unsat_verdict, evidence_verdict, sat_verdict, answer_verdict, read_verdict, verdict_of}
-use Rattle.bone_check.specs.Laws.{IsReadable, AnswersAreTexts}
+use Rattle.bone_check.specs.Laws.{IsReadable, VerifiedIsRight}
 use Rattle.bone_check.proofs.TestLemmas.{verified_parts, passed_at}
 use Rattle.bone_check.proofs.Reaching.{no_models}
 use Rattle.bone_check.proofs.Rightness.{printed_is_right}
@@ -105,30 +106,29 @@ sat_right F fixed proof witness (Ok lines) (Ok w) rises reads tells passed =
     let both = printed_is_right F lines fixed w (proof_proves F proof lines reads) rises (readable F.vars witness w tells) parts.0 parts.1 in
     (both.0, λ none. no_model F _ none both.1)
 
-answer_right : (F : Cnf) (answer proof witness : List ℕ) (r : Read) (s : Stage) → F.vars ≤ 2 ^ 20 → AnswersAreTexts → reading_of F.vars answer ≡ Ok r
+answer_right : (F : Cnf) (answer proof witness : List ℕ) (r : Read) (s : Stage) → F.vars ≤ 2 ^ 20 → reading_of F.vars answer ≡ Ok r
     → r.stage ≡ s → answer_verdict F s r.fixed (proof_reading F proof) (witness_reading F.vars witness) ≡ Verified → answer ≡ answer_text F
-answer_right F answer proof witness r stage.Unsat limit texts reads is passed =
-    texts.unsat F.vars answer r limit reads is
+answer_right F answer proof witness r stage.Unsat limit reads is passed =
+    unsat_read F.vars answer r limit reads is
     ∙ sym (answer_text-unsat F (unsat_right F proof (proof_reading F proof) (witness_reading F.vars witness) refl passed))
-answer_right F answer proof witness r stage.Sat limit texts reads is passed =
-    let spelled = texts.sat F.vars answer r limit reads is in
-    let right = sat_right F r.fixed proof witness (proof_reading F proof) (witness_reading F.vars witness) spelled.1 refl refl passed in
-    spelled.0 ∙ ap sat_text right.0 ∙ sym (answer_text-sat F right.1)
-answer_right F answer proof witness r stage.Partial limit texts reads is passed = absurd (cc)
-answer_right F answer proof witness r stage.Unknown limit texts reads is passed = absurd (cc)
-answer_right F answer proof witness r stage.First limit texts reads is passed = absurd (cc)
-answer_right F answer proof witness r stage.Backbone limit texts reads is passed = absurd (cc)
-answer_right F answer proof witness r stage.Fixed limit texts reads is passed = absurd (cc)
-answer_right F answer proof witness r stage.Still limit texts reads is passed = absurd (cc)
+answer_right F answer proof witness r stage.Sat limit reads is passed =
+    let read = sat_read F.vars answer r limit reads is in
+    let right = sat_right F r.fixed proof witness (proof_reading F proof) (witness_reading F.vars witness) read.rises refl refl passed in
+    read.spelled ∙ ap sat_text right.0 ∙ sym (answer_text-sat F right.1)
+answer_right F answer proof witness r stage.Partial limit reads is passed = absurd (cc)
+answer_right F answer proof witness r stage.Unknown limit reads is passed = absurd (cc)
+answer_right F answer proof witness r stage.First limit reads is passed = absurd (cc)
+answer_right F answer proof witness r stage.Backbone limit reads is passed = absurd (cc)
+answer_right F answer proof witness r stage.Fixed limit reads is passed = absurd (cc)
+answer_right F answer proof witness r stage.Still limit reads is passed = absurd (cc)
 
-read_right : (F : Cnf) (answer proof witness : List ℕ) (given : Result Read (FaultAt LineFault)) → F.vars ≤ 2 ^ 20 → AnswersAreTexts
+read_right : (F : Cnf) (answer proof witness : List ℕ) (given : Result Read (FaultAt LineFault)) → F.vars ≤ 2 ^ 20
     → reading_of F.vars answer ≡ given
     → read_verdict F given (proof_reading F proof) (witness_reading F.vars witness) ≡ Verified → answer ≡ answer_text F
-read_right F answer proof witness (Err fault) limit texts reads passed = absurd (cc)
-read_right F answer proof witness (Ok r) limit texts reads passed = answer_right F answer proof witness r r.stage limit texts reads refl passed
+read_right F answer proof witness (Err fault) limit reads passed = absurd (cc)
+read_right F answer proof witness (Ok r) limit reads passed = answer_right F answer proof witness r r.stage limit reads refl passed
 
 -- an answer that is verified is the formula's
-pub verified_is_right : AnswersAreTexts → (F : Cnf) (answer proof witness : List ℕ) → F.vars ≤ 2 ^ 20
-    → verdict_of F answer proof witness ≡ Verified → answer ≡ answer_text F
+pub verified_is_right : VerifiedIsRight
 unfolding verdict_of
-verified_is_right texts F answer proof witness limit passed = read_right F answer proof witness (reading_of F.vars answer) limit texts refl passed
+verified_is_right F answer proof witness limit passed = read_right F answer proof witness (reading_of F.vars answer) limit refl passed

@@ -1,5 +1,5 @@
 -- The statements of the laws.
-use Rattle.std.specs.Prelude.{◌≡◌, ℕ, ◌<◌, ◌≤◌, ◌^◌, List, length, Contains, Ok}
+use Rattle.std.specs.Prelude.{◌≡◌, ℕ, ◌<◌, ◌≤◌, ◌^◌, List, length, Contains}
 use Rattle.cnf_core.specs.Literals.{Literals, Assignment, RisesByVar}
 use Rattle.cnf_core.specs.Formulas.{Cnf, IsModel, shown_backbone}
 use Rattle.lrat_lines.specs.declared.line.Line.{Line}
@@ -12,9 +12,7 @@ use Rattle.bone_check.specs.Tests.{each_from}
 use Rattle.bone_check.specs.Proving.{unit_fault}
 use Rattle.bone_check.specs.Witnessing.{witness_verdict}
 use Rattle.bone_check.specs.Verdicts.{verdict_of}
-use Rattle.answer_text.specs.declared.stage.Stage.TheVariants as stage
-use Rattle.answer_text.specs.AnswerText.{sat_text, unsat_text, answer_text}
-use Rattle.answer_text.specs.Reading.{Read, reading_of}
+use Rattle.answer_text.specs.AnswerText.{answer_text}
 
 -- the models have a value for each of n variables, and the drop lines name models that are there
 pub record IsReadable (n : ℕ) (w : Witnessed) : Type 0 where
@@ -26,13 +24,6 @@ abbrev pub PrintedIsRight : Type 0
 PrintedIsRight = (F : Cnf) (lines : List Line) (fixed : Literals) (w : Witnessed) → Proves F lines → RisesByVar fixed
     → IsReadable F.vars w → each_from (unit_fault F lines) 2 fixed ≡ Verified → witness_verdict F fixed w ≡ Verified
     → (fixed ≡ shown_backbone F) × IsModel F (model_in w.models 0)
-
--- what reads as an answer is its text
-pub record AnswersAreTexts : Type 0 where
-  pub unsat : (vars : ℕ) (text : List ℕ) (r : Read) → vars ≤ 2 ^ 20 → reading_of vars text ≡ Ok r → r.stage ≡ stage.Unsat
-      → text ≡ unsat_text
-  pub sat : (vars : ℕ) (text : List ℕ) (r : Read) → vars ≤ 2 ^ 20 → reading_of vars text ≡ Ok r → r.stage ≡ stage.Sat
-      → (text ≡ sat_text r.fixed) × RisesByVar r.fixed
 
 -- a verified answer is the formula's, whatever the proof and the witness hold: that it has no model, or the shown
 -- members of its backbone

@@ -38,7 +38,13 @@ pub fn check_all<D: Desk>(
     match read_answer(alloc, desk, formula.vars()) {
         Ok(Answer::Unsat) => check_unsat(alloc, formula, desk, witness),
         Ok(Answer::Sat(fixed)) => check_sat(alloc, formula, desk, &fixed, witness),
-        Ok(_) => Ok(not_verified(Reason::Unfinished, 1)),
+        Ok(
+            Answer::Partial {
+                fixed: _fixed,
+                still: _still,
+            },
+        ) => Ok(not_verified(Reason::Unfinished, 1)),
+        Ok(Answer::Unknown) => Ok(not_verified(Reason::Unfinished, 1)),
         Err(AnswerEnd::BadLine(line)) => Ok(not_verified(Reason::BadLine, line)),
         Err(AnswerEnd::NotSorted(line)) => Ok(not_verified(Reason::NotSorted, line)),
         Err(AnswerEnd::Fault) => Err(CheckEnd::Fault(Feed::Answer)),
