@@ -28,11 +28,11 @@ pub pass_next : (F : Cnf) (models : List Assignment) (drops : List WitnessLine) 
 pass_next F models drops k place next d here model against is so_far i e before there takes = elim (cases_lt i place) [
   | inl earlier ↦ so_far i e earlier there takes
   | inr le ↦ elim (cases_eq i place) [
-      | inl same ↦
-          subst (λ (x : WitnessLine). IsTrue (is_against F models x))
-          (same_line drops place d e here (subst (λ (p : ℕ). slice_get drops p ≡ Some e) same there)) against
-      | inr later ↦ absurd (is.between i e (omega arith) before there (takes ∙ sym model))
-    ]
+    | inl same ↦
+        subst (λ (x : WitnessLine). IsTrue (is_against F models x))
+        (same_line drops place d e here (subst (λ (p : ℕ). slice_get drops p ≡ Some e) same there)) against
+    | inr later ↦ absurd (is.between i e (omega arith) before there (takes ∙ sym model))
+  ]
 ]
 
 -- one model more

@@ -62,7 +62,7 @@ read_count limit start now p came done read =
 
 -- these lines of the text were taken, and the checker stands for what they say
 pub record IsChecking (F : Cnf) (start now : Told) (p : Progress) (kept : Kept) (count : ℕ) (came : List ℕ) (done : List text.Line)
-  (taken : List Line) : Type 0 where
+    (taken : List Line) : Type 0 where
   pub read : HasRead proof_limit start now p came done
   pub on : p.feed ≡ feed.Proof
   pub so_far : steps (text_step F) 1 [] done ≡ Ok taken

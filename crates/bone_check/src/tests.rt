@@ -18,12 +18,7 @@ fn shared<T: Send + Sync>(value: &T) -> &T {
 }
 
 /// A desk with these files.
-fn desk_with(
-    alloc: Global,
-    answer: &[u8],
-    proof: &[u8],
-    witness: &[u8],
-) -> Result<MemDesk, Fail> {
+fn desk_with(alloc: Global, answer: &[u8], proof: &[u8], witness: &[u8]) -> Result<MemDesk, Fail> {
     let mut desk = MemDesk::new(alloc, 7, 0)?;
     desk.answer.extend_from_slice(answer)?;
     desk.proof.extend_from_slice(proof)?;
@@ -87,7 +82,11 @@ fn the_first_failing_test_of_a_proof_is_told(rt: HostRuntime) -> Result<(), Fail
 fn the_first_failing_test_of_an_answer_is_told(rt: HostRuntime) -> Result<(), Fail> {
     let alloc = rt.alloc();
     for (answer, reason, place) in [
-        (b"s SATISFIABLE\nb 2\nb 1\nb 0\n".as_slice(), Reason::NotSorted, 3),
+        (
+            b"s SATISFIABLE\nb 2\nb 1\nb 0\n".as_slice(),
+            Reason::NotSorted,
+            3,
+        ),
         (b"s PARTIAL\nu 1\nb 0\n", Reason::Unfinished, 1),
         (b"s UNKNOWN\n", Reason::Unfinished, 1),
         (b"s SATISFIABLE\nb 1\nb 2\nb 0\n", Reason::NoUnit, 3),
@@ -158,7 +157,12 @@ fn only_shown_variables_are_printed_and_covered(rt: HostRuntime) -> Result<(), F
 fn a_failed_read_is_told_by_its_feed(rt: HostRuntime) -> Result<(), Fail> {
     let alloc = rt.alloc();
     let formula = Formula::of_numbers(alloc, 2, &[1, 2, 0, 1, -2, 0])?;
-    for (call, feed) in [(1, Feed::Answer), (5, Feed::Answer), (6, Feed::Proof), (9, Feed::Witness)] {
+    for (call, feed) in [
+        (1, Feed::Answer),
+        (5, Feed::Answer),
+        (6, Feed::Proof),
+        (9, Feed::Witness),
+    ] {
         let mut desk = desk_with(alloc, ANSWER, PROOF, WITNESS)?;
         desk.fail.push(call)?;
         let told = check_all(alloc, &formula, &mut desk, true);

@@ -15,13 +15,18 @@ use Rattle.bone_check.proofs.Proved.{IsChecking, read_count, checking_next, take
 use Rattle.bone_check.proofs.proof.check_proof.Goals as goal
 
 pub loop-more-init : goal.loop-more-init
-loop-more-init g c = ([], [], [], record {
-  read = c.new-lines.ensures.start (g.D.Desk.told c.args.desk.now);
-  on = ap (λ p. p.feed) c.new-lines.ensures.unread;
-  so_far = refl;
-  stands = c.in_ok-checker.ensures;
-  counted = refl;
-})
+loop-more-init g c = (
+  [],
+  [],
+  [],
+  record {
+    read = c.new-lines.ensures.start (g.D.Desk.told c.args.desk.now);
+    on = ap (λ p. p.feed) c.new-lines.ensures.unread;
+    so_far = refl;
+    stands = c.in_ok-checker.ensures;
+    counted = refl;
+  },
+)
 
 pub returns-in-Err : goal.returns-in-Err
 returns-in-Err g c =
@@ -135,7 +140,10 @@ loop-more-preserved g c =
     let told = c.take_line.ensures F taken is.stands in
     let line = subst (λ (bytes : List ℕ). TextSays F taken bytes c.take_line.new.checker c.take_line.result) c.bytes.ensures told in
     let leads : Leads F taken p.line.bytes c.take_line.new.checker =
-    subst (λ (r : Result (Unit {0}) Untaken). TextSays F taken p.line.bytes c.take_line.new.checker r) c.in_default.is line in
-    (came ++ step.more, done ++ p.line ∷ [], leads.after,
+    subst (λ (r : Result (Unit {0}) Untaken). TextSays F taken p.line.bytes c.take_line.new.checker r) c.in_default.is line in (
+      came ++ step.more,
+      done ++ p.line ∷ [],
+      leads.after,
       checking_next F start now p c.loop-more.checker c.take_line.new.checker c.loop-more.line (came ++ step.more) done taken leads.after
-      is.so_far is.counted read on leads.leads leads.stands)
+          is.so_far is.counted read on leads.leads leads.stands,
+    )
