@@ -26,7 +26,7 @@ returns-in-Err-BadLine g c =
     let old = g.D.Desk.told c.args.desk.now in
     let new = g.D.Desk.told c.read_answer.new.desk in
     let reads = subst (λ (n : ℕ). ReadsAnswer n old new c.read_answer.result) c.vars.ensures.value c.read_answer.ensures in
-    let ends = subst (λ (r : Result Answer AnswerEnd). Ends F.vars old new reads.text r) c.in-Err-BadLine.is reads.ends in
+    let ends = subst (λ (r : Result Answer AnswerEnd). Ends F.vars old new reads.text r) (c.in-Err-BadLine.is ∙ ap (λ (e : AnswerEnd). Err e) c.in-Err-BadLine.field-0-is) reads.ends in
     subst (λ (v : Verdict). ChecksAll F c.args.witness old new (Ok v)) (sym c.not_verified-in-Err-BadLine.ensures)
     (answer_fails F c.args.witness old new reads.text c.in-Err-BadLine.line line.Bad reads.came ends)
 
@@ -36,7 +36,7 @@ returns-in-Err-NotSorted g c =
     let old = g.D.Desk.told c.args.desk.now in
     let new = g.D.Desk.told c.read_answer.new.desk in
     let reads = subst (λ (n : ℕ). ReadsAnswer n old new c.read_answer.result) c.vars.ensures.value c.read_answer.ensures in
-    let ends = subst (λ (r : Result Answer AnswerEnd). Ends F.vars old new reads.text r) c.in-Err-NotSorted.is reads.ends in
+    let ends = subst (λ (r : Result Answer AnswerEnd). Ends F.vars old new reads.text r) (c.in-Err-NotSorted.is ∙ ap (λ (e : AnswerEnd). Err e) c.in-Err-NotSorted.field-0-is) reads.ends in
     subst (λ (v : Verdict). ChecksAll F c.args.witness old new (Ok v)) (sym c.not_verified-in-Err-NotSorted.ensures)
     (answer_fails F c.args.witness old new reads.text c.in-Err-NotSorted.line line.NotSorted reads.came ends)
 
@@ -46,7 +46,7 @@ returns-in-Ok-Unsat g c =
     let old = g.D.Desk.told c.args.desk.now in
     let mid = g.D.Desk.told c.read_answer.new.desk in
     let reads = subst (λ (n : ℕ). ReadsAnswer n old mid c.read_answer.result) c.vars.ensures.value c.read_answer.ensures in
-    let ends = subst (λ (r : Result Answer AnswerEnd). Ends F.vars old mid reads.text r) c.in-Ok-Unsat.is reads.ends in
+    let ends = subst (λ (r : Result Answer AnswerEnd). Ends F.vars old mid reads.text r) (c.in-Ok-Unsat.is ∙ ap (λ (a : Answer). Ok a) c.in-Ok-Unsat.field-0-is) reads.ends in
     let new = g.D.Desk.told c.check_unsat.new.desk in
     rest_decides F c.args.witness old mid new reads.text (unsat_verdict F) c.check_unsat.result reads.came ends.came
     (λ p w. judged_answer F reads.text p w ends.read ends.reading
@@ -59,7 +59,7 @@ check_sat-requires g c =
     let old = g.D.Desk.told c.args.desk.now in
     let mid = g.D.Desk.told c.read_answer.new.desk in
     let reads = subst (λ (n : ℕ). ReadsAnswer n old mid c.read_answer.result) c.vars.ensures.value c.read_answer.ensures in
-    let ends = subst (λ (r : Result Answer AnswerEnd). Ends F.vars old mid reads.text r) c.in-Ok-Sat.is reads.ends in
+    let ends = subst (λ (r : Result Answer AnswerEnd). Ends F.vars old mid reads.text r) (c.in-Ok-Sat.is ∙ ap (λ (a : Answer). Ok a) c.in-Ok-Sat.field-0-is) reads.ends in
     let within = (sat_read F.vars reads.text ends.read c.vars.ensures.limits.vars_limit ends.reading ends.says.0).within in
     subst (λ (ls : Literals). AreWithin F.vars ls) (ends.says.1 ∙ sym c.deref.ensures.value) within
 
@@ -69,7 +69,7 @@ returns-in-Ok-Sat g c =
     let old = g.D.Desk.told c.args.desk.now in
     let mid = g.D.Desk.told c.read_answer.new.desk in
     let reads = subst (λ (n : ℕ). ReadsAnswer n old mid c.read_answer.result) c.vars.ensures.value c.read_answer.ensures in
-    let ends = subst (λ (r : Result Answer AnswerEnd). Ends F.vars old mid reads.text r) c.in-Ok-Sat.is reads.ends in
+    let ends = subst (λ (r : Result Answer AnswerEnd). Ends F.vars old mid reads.text r) (c.in-Ok-Sat.is ∙ ap (λ (a : Answer). Ok a) c.in-Ok-Sat.field-0-is) reads.ends in
     let new = g.D.Desk.told c.check_sat.new.desk in
     let same : ends.read.fixed ≡ c.deref.result.now = ends.says.1 ∙ sym c.deref.ensures.value in
     rest_decides F c.args.witness old mid new reads.text (sat_verdict F c.deref.result.now) c.check_sat.result reads.came ends.came
@@ -84,7 +84,7 @@ returns-in-Err-Fault g c =
     let old = g.D.Desk.told c.args.desk.now in
     let mid = g.D.Desk.told c.read_answer.new.desk in
     let reads = subst (λ (n : ℕ). ReadsAnswer n old mid c.read_answer.result) c.vars.ensures.value c.read_answer.ensures in
-    let ends = subst (λ (r : Result Answer AnswerEnd). Ends F.vars old mid reads.text r) c.in-Err-Fault.is reads.ends in
+    let ends = subst (λ (r : Result Answer AnswerEnd). Ends F.vars old mid reads.text r) (c.in-Err-Fault.is ∙ ap (λ (e : AnswerEnd). Err e) c.in-Err-Fault.field-0-is) reads.ends in
     answer_ends F c.args.witness old mid reads.text (Fault feed.Answer) reads.came ends.rose
 
 pub returns-in-Err-TooLong : goal.returns-in-Err-TooLong
@@ -93,16 +93,16 @@ returns-in-Err-TooLong g c =
     let old = g.D.Desk.told c.args.desk.now in
     let mid = g.D.Desk.told c.read_answer.new.desk in
     let reads = subst (λ (n : ℕ). ReadsAnswer n old mid c.read_answer.result) c.vars.ensures.value c.read_answer.ensures in
-    let ends = subst (λ (r : Result Answer AnswerEnd). Ends F.vars old mid reads.text r) c.in-Err-TooLong.is reads.ends in
+    let ends = subst (λ (r : Result Answer AnswerEnd). Ends F.vars old mid reads.text r) (c.in-Err-TooLong.is ∙ ap (λ (e : AnswerEnd). Err e) c.in-Err-TooLong.field-0-is) reads.ends in
     answer_ends F c.args.witness old mid reads.text (TooLong feed.Answer) reads.came ends
 
-pub returns : goal.returns
-returns g c =
+pub returns-in-Err-Memory : goal.returns-in-Err-Memory
+returns-in-Err-Memory g c =
     let F = c.args.formula.now in
     let old = g.D.Desk.told c.args.desk.now in
     let mid = g.D.Desk.told c.read_answer.new.desk in
     let reads = subst (λ (n : ℕ). ReadsAnswer n old mid c.read_answer.result) c.vars.ensures.value c.read_answer.ensures in
-    let ends = subst (λ (r : Result Answer AnswerEnd). Ends F.vars old mid reads.text r) c.in-Err-Memory.is reads.ends in
+    let ends = subst (λ (r : Result Answer AnswerEnd). Ends F.vars old mid reads.text r) (c.in-Err-Memory.is ∙ ap (λ (e : AnswerEnd). Err e) c.in-Err-Memory.field-0-is) reads.ends in
     answer_ends F c.args.witness old mid reads.text Memory reads.came tt
 
 pub returns-in-Ok-Partial : goal.returns-in-Ok-Partial
@@ -111,7 +111,7 @@ returns-in-Ok-Partial g c =
     let old = g.D.Desk.told c.args.desk.now in
     let mid = g.D.Desk.told c.read_answer.new.desk in
     let reads = subst (λ (n : ℕ). ReadsAnswer n old mid c.read_answer.result) c.vars.ensures.value c.read_answer.ensures in
-    let ends = subst (λ (r : Result Answer AnswerEnd). Ends F.vars old mid reads.text r) c.in-Ok-Partial.is reads.ends in
+    let ends = subst (λ (r : Result Answer AnswerEnd). Ends F.vars old mid reads.text r) (c.in-Ok-Partial.is ∙ ap (λ (a : Answer). Ok a) c.in-Ok-Partial.field-0-is) reads.ends in
     let stage_is = ends.says.0 in
     subst (λ (v : Verdict). ChecksAll F c.args.witness old mid (Ok v)) (sym c.not_verified.ensures)
     (answer_decides F c.args.witness old mid reads.text (NotVerified Unfinished 1) reads.came ends.came
@@ -124,7 +124,7 @@ returns-in-Ok-Unknown g c =
     let old = g.D.Desk.told c.args.desk.now in
     let mid = g.D.Desk.told c.read_answer.new.desk in
     let reads = subst (λ (n : ℕ). ReadsAnswer n old mid c.read_answer.result) c.vars.ensures.value c.read_answer.ensures in
-    let ends = subst (λ (r : Result Answer AnswerEnd). Ends F.vars old mid reads.text r) c.in-Ok-Unknown.is reads.ends in
+    let ends = subst (λ (r : Result Answer AnswerEnd). Ends F.vars old mid reads.text r) (c.in-Ok-Unknown.is ∙ ap (λ (a : Answer). Ok a) c.in-Ok-Unknown.field-0-is) reads.ends in
     subst (λ (v : Verdict). ChecksAll F c.args.witness old mid (Ok v)) (sym c.not_verified-in-Ok-Unknown.ensures)
     (answer_decides F c.args.witness old mid reads.text (NotVerified Unfinished 1) reads.came ends.came
     (λ p w. judged_answer F reads.text p w ends.read ends.reading
