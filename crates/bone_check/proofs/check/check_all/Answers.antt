@@ -27,7 +27,7 @@ returns-in-Err-BadLine g c =
     let new = g.D.Desk.told c.read_answer.new.desk in
     let reads = subst (λ (n : ℕ). ReadsAnswer n old new c.read_answer.result) c.vars.ensures.value c.read_answer.ensures in
     let ends = subst (λ (r : Result Answer AnswerEnd). Ends F.vars old new reads.text r) (c.in-Err-BadLine.is ∙ ap (λ (e : AnswerEnd). Err e) c.in-Err-BadLine.field-0-is) reads.ends in
-    subst (λ (v : Verdict). ChecksAll F c.args.witness old new (Ok v)) (sym c.not_verified-in-Err-BadLine.ensures)
+    subst (λ (v : Verdict). ChecksAll F c.args.witness old new (Ok v)) (sym (c.not_verified-in-Err-BadLine.ensures ∙ ap (λ (n : ℕ). NotVerified BadLine n) c.in-Err-BadLine.line-is))
     (answer_fails F c.args.witness old new reads.text c.in-Err-BadLine.line line.Bad reads.came ends)
 
 pub returns-in-Err-NotSorted : goal.returns-in-Err-NotSorted
@@ -37,7 +37,7 @@ returns-in-Err-NotSorted g c =
     let new = g.D.Desk.told c.read_answer.new.desk in
     let reads = subst (λ (n : ℕ). ReadsAnswer n old new c.read_answer.result) c.vars.ensures.value c.read_answer.ensures in
     let ends = subst (λ (r : Result Answer AnswerEnd). Ends F.vars old new reads.text r) (c.in-Err-NotSorted.is ∙ ap (λ (e : AnswerEnd). Err e) c.in-Err-NotSorted.field-0-is) reads.ends in
-    subst (λ (v : Verdict). ChecksAll F c.args.witness old new (Ok v)) (sym c.not_verified-in-Err-NotSorted.ensures)
+    subst (λ (v : Verdict). ChecksAll F c.args.witness old new (Ok v)) (sym (c.not_verified-in-Err-NotSorted.ensures ∙ ap (λ (n : ℕ). NotVerified NotSorted n) c.in-Err-NotSorted.line-is))
     (answer_fails F c.args.witness old new reads.text c.in-Err-NotSorted.line line.NotSorted reads.came ends)
 
 pub returns-in-Ok-Unsat : goal.returns-in-Ok-Unsat
