@@ -3,6 +3,6 @@ pub mod Verdicts
 mod Digits
 mod Endings
 mod Spelled
-mod SoFar
+pub mod SoFar
 mod ReadBack
 mod RoundTrip

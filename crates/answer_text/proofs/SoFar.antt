@@ -17,7 +17,7 @@ use Rattle.answer_text.specs.declared.stage.LineFault.{LineFault}
 use Rattle.answer_text.specs.declared.stage.LineFault.TheVariants.{Bad, NotSorted}
 use Rattle.answer_text.specs.declared.answer.Answer.{Answer}
 use Rattle.answer_text.specs.declared.answer.Answer.TheVariants.{Unsat, Sat, Partial, Unknown}
-use Rattle.answer_text.specs.AnswerText.{literal_line, literal_lines, fixed_lines, still_lines, groups_text, unsat_text, partial_text, unknown_text, SharesNoVar}
+use Rattle.answer_text.specs.AnswerText.{literal_line, literal_lines, fixed_lines, still_lines, groups_text, unsat_text, sat_text, partial_text, unknown_text, SharesNoVar}
 use Rattle.answer_text.specs.Reading.{Read, nothing_read, line_literal, has_var, verdict_line, fixed_line, still_line, either_line, line_at, line_read, end_read, reading_of}
 use Rattle.answer_text.specs.Answers.{Says}
 use Rattle.answer_text.specs.Laws.{IsTextOf, ReadIsText}
@@ -447,3 +447,26 @@ says_so vars text s Unknown h is = record {
 
 pub read_is_text : ReadIsText
 read_is_text vars text answer small back = says_so vars text back.read answer (whole_so_far vars text back.read small back.reading) back.says
+
+-- the same by what was read: a text that there is no model
+pub unsat_read : (vars : ℕ) (text : List ℕ) (r : Read) → vars ≤ 2 ^ 20 → reading_of vars text ≡ Ok r → r.stage ≡ stage.Unsat → text ≡ unsat_text
+unsat_read vars text r small reading is =
+    let h = whole_so_far vars text r small reading in
+    h.text ∙ ap (λ (st : Stage). front_text st r.fixed r.still) is
+
+-- and one that prints a backbone
+pub record IsSatText (vars : ℕ) (text : List ℕ) (fixed : Literals) : Type 0 where
+  pub spelled : text ≡ sat_text fixed
+  pub rises : RisesByVar fixed
+  pub within : AreWithin vars fixed
+
+pub sat_read : (vars : ℕ) (text : List ℕ) (r : Read) → vars ≤ 2 ^ 20 → reading_of vars text ≡ Ok r → r.stage ≡ stage.Sat → IsSatText vars text r.fixed
+sat_read vars text r small reading is =
+    let h = whole_so_far vars text r small reading in
+    let none : r.still ≡ [] = subst (λ (st : Stage). IsBefore st r.still) is h.none in
+    record {
+      spelled = h.text ∙ ap (λ (st : Stage). front_text st r.fixed r.still) is
+          ∙ ap (λ (x : Literals). groups_text (codes "s SATISFIABLE\n") r.fixed x) none;
+      rises = h.ordered.fixed_rises;
+      within = h.ordered.fixed_within;
+    }

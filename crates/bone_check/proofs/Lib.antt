@@ -1,0 +1,15 @@
+pub mod TestLemmas
+pub mod Reaching
+pub mod Rightness
+pub mod Taken
+pub mod Covered
+pub mod Judged
+pub mod Chained
+pub mod Against
+pub mod Dropped
+pub mod Proved
+pub mod Witnessed
+pub mod Verified
+pub mod Gathered
+pub mod Concluded
+pub mod Answered
