@@ -107,7 +107,8 @@ fn a_line_longer_than_what_there_is_makes_it_grow(rt: HostRuntime) -> Result<(),
     let mut desk = desk_of(alloc, &long, 50_000)?;
     let mut lines = FeedLines::new(alloc, Feed::Proof, 1 << 45);
     assert_eq!(rt; lines.advance(&mut desk), Ok(true));
-    assert_eq!(rt; lines.bytes(), &long[..200_000]);
+    assert_eq!(rt; lines.bytes().len(), 200_000);
+    assert!(rt; lines.bytes().iter().all(|byte| *byte == b'x'));
     assert_eq!(rt; lines.advance(&mut desk), Ok(true));
     assert_eq!(rt; lines.bytes(), b"y".as_slice());
     Ok(())
