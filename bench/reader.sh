@@ -64,7 +64,7 @@ least() {
 # The most kilobytes that the program had in memory.
 peak() {
     if [ -x /usr/bin/time ]; then
-        /usr/bin/time -f %M "$program" "$text" 2>&1 >/dev/null
+        { /usr/bin/time -f %M "$program" "$text" >/dev/null; } 2>&1
     else
         echo 0
     fi

@@ -75,6 +75,7 @@ shown() {
 
 for words in "150 640 1" "200 852 1" "200 840 5" "225 958 3" "250 1065 2" "250 1040 7" \
     "175 746 8" "200 830 9" "225 930 4" "225 950 6" "250 1040 11" "250 1050 13"; do
+    # shellcheck disable=SC2086 # three words
     "$program" print $words >"$work/random-${words// /-}.cnf"
 done
 
@@ -83,13 +84,16 @@ echo "cores: $(nproc)"
 for file in "$work"/random-*.cnf "$@"; do
     a=$(proved "$file")
     printf '%s: %s' "$(basename "$file" .cnf)" "$(head -n 1 "$work/answer")"
+    # shellcheck disable=SC2086 # two numbers
     shown proved $a
     if [ -n "${YARDSTICK:-}" ]; then
         b=$(yardstick "$file")
+        # shellcheck disable=SC2086 # two numbers
         shown yardstick $b
         echo "$a $b" >>"$work/ratios"
     fi
     if command -v minisat >/dev/null; then
+        # shellcheck disable=SC2046 # two numbers
         shown minisat $(minisat_of "$file")
     fi
     echo

@@ -79,6 +79,7 @@ fi
 
 # A folder belongs to one formula and one number of jobs.
 mkdir -p "$folder" || exit 62
+named=$folder
 folder=$(cd "$folder" && pwd)
 question="$(sha256sum <"$formula" | cut -d ' ' -f 1) $jobs"
 if [ -e "$folder/question" ] && [ "$(cat "$folder/question")" != "$question" ]; then
@@ -111,7 +112,7 @@ failed=0
 for ((k = 1; k <= jobs; k++)); do
     is_done "$folder" $k && continue
     status=$(cat "$folder/job-$k.status" 2>/dev/null || echo 1)
-    say "job $k of $jobs failed with status $status; the same call runs it again: $folder/job-$k.cnf"
+    say "job $k of $jobs failed with status $status; the same call runs it again: $named/job-$k.cnf"
     [ "$failed" = 0 ] && failed=$status
 done
 [ "$failed" = 0 ] || exit "$failed"
