@@ -49,6 +49,7 @@ impl Weights {
         })
     }
 
+    /// What its memory comes from.
     pub fn allocator(&self) -> Global {
         *self.heap.allocator()
     }
