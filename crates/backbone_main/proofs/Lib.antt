@@ -5,6 +5,12 @@ pub mod Refused
 pub mod Partial
 pub mod Evidence
 pub mod Replies
+pub mod Onward
 pub mod Finished
 pub mod Served
+pub mod Given
 pub mod Answering
+pub mod Judging
+pub mod Checked
+pub mod Wordless
+pub mod Serving

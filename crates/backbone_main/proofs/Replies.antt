@@ -21,20 +21,19 @@ use Rattle.answer_text.proofs.Verdicts.{answer_text-sat, answer_text-unsat}
 use Rattle.run_core.specs.declared.outcome.Report.{Report}
 use Rattle.run_core.specs.Outcomes.{IsReport, IsComplete, IsRefuted, IsSpent, IsUnfinished}
 use Rattle.lrat_log.specs.Entries.{Recorded}
-use Rattle.bone_words.specs.Settings.{Wanted}
 use Rattle.backbone_main.specs.declared.task.Files.{Files}
 use Rattle.backbone_main.specs.declared.reply.Drops.{Drops}
 use Rattle.backbone_main.specs.declared.reply.Evidence.{Evidence}
 use Rattle.backbone_main.specs.declared.reply.Reply.{Reply}
 use Rattle.backbone_main.specs.declared.ending.Ending.{Ending}
 use Rattle.backbone_main.specs.declared.ending.Ending.TheVariants.{Failed, OutOfMemory}
-use Rattle.backbone_main.specs.Words.{IsBuilt, files_of, uses}
-use Rattle.backbone_main.specs.Endings.{AllowsEnding}
+use Rattle.backbone_main.specs.Causes.{Acts}
+use Rattle.backbone_main.specs.Endings.{IsItsOwn}
 use Rattle.backbone_main.specs.Texts.{Texts, text_for, AreSpent, HasModel, IsEvidence, TellsBackbone, TellsNoModel, TellsPart, TextsSay, IsProofOf, IsWitnessOf, IsRefutation}
-use Rattle.backbone_main.specs.Outcome.{GaveAll, IsCutAt, StopsWhere}
+use Rattle.backbone_main.specs.Extracting.{GaveAll, IsCutAt, StopsWhere}
 use Rattle.backbone_main.specs.Steps.Open.{open_literals}
 use Rattle.backbone_main.specs.Steps.Finish.{WritesOwn, Touches}
-use Rattle.backbone_main.specs.Steps.Replies.{EndsWriting, Finishes, IsKeptDrops, IsWantedReply, IsWritable, proof_text_of, drops_text_of, texts_of}
+use Rattle.backbone_main.specs.Steps.Replies.{AllowsFiles, EndsWriting, Finishes, IsKeptDrops, IsWantedReply, IsWritable, proof_text_of, drops_text_of, texts_of}
 use Rattle.backbone_main.proofs.Own.{touches_none, touches_more, touches_by_write, touches_by_choice}
 use Rattle.backbone_main.proofs.Partial.{complete_witness, first_is_model, known_part, partial_witness}
 use Rattle.backbone_main.proofs.Evidence.{drops_where, drops_writable, printable_of_tidy, proof_of_report, proof_where, proof_writable, refutation}
@@ -97,24 +96,23 @@ writable_report files F r evidence proof_is keeps report = record {
 }
 
 -- what is named is wanted
-pub wanted_reply : (w : Option Wanted) (files : Files) (reply : Reply) → IsBuilt w → files ≡ files_of w
-    → is_some reply.evidence.proof ≡ files.proof → is_some reply.evidence.witness ≡ files.witness → AllowsEnding w reply.ending
-    → IsWantedReply w reply
-wanted_reply w files reply built files_are proof drops allowed = record {
-  built = built;
-  proof = λ some. ap (λ (fs : Files). fs.proof) (sym files_are) ∙ sym proof ∙ some;
-  drops = λ some. ap (λ (fs : Files). fs.witness) (sym files_are) ∙ sym drops ∙ some;
-  allowed = allowed;
+pub wanted_reply : (may : Acts) (files : Files) (reply : Reply) → AllowsFiles may files → is_some reply.evidence.proof ≡ files.proof
+    → is_some reply.evidence.witness ≡ files.witness → IsItsOwn may reply.ending → IsWantedReply may reply
+wanted_reply may files reply allows proof drops own = record {
+  answer = allows.answer;
+  proof = λ some. allows.proof (sym proof ∙ some);
+  drops = λ some. allows.witness (sym drops ∙ some);
+  own = own;
 }
 
 -- without evidence nothing has to be named
-pub bare_reply : (w : Option Wanted) (reply : Reply) → IsBuilt w → is_some reply.evidence.proof ≡ false
-    → is_some reply.evidence.witness ≡ false → AllowsEnding w reply.ending → IsWantedReply w reply
-bare_reply w reply built proof drops allowed = record {
-  built = built;
+pub bare_reply : (may : Acts) (files : Files) (reply : Reply) → AllowsFiles may files → is_some reply.evidence.proof ≡ false
+    → is_some reply.evidence.witness ≡ false → IsItsOwn may reply.ending → IsWantedReply may reply
+bare_reply may files reply allows proof drops own = record {
+  answer = allows.answer;
   proof = λ some. absurd (true≢false (sym some ∙ proof));
   drops = λ some. absurd (true≢false (sym some ∙ drops));
-  allowed = allowed;
+  own = own;
 }
 
 pub spent_of_one : (F : Cnf) (budget : ℕ) (L : Recorded) → IsSpent F budget L → AreSpent F 1 budget
@@ -194,40 +192,40 @@ gave_all texts a b c d proof first witness second answer third port.Notes other 
 
 -- ---- and all of it is wanted
 
-pub touches_proof : (w : Option Wanted) (reply : Reply) (a b : Told) → IsWantedReply w reply → WritesOnly port.Proof a b
-    → (is_some reply.evidence.proof ≡ false → b ≡ a) → Touches w a b
-touches_proof w reply a b wanted only none =
-    touches_by_choice w port.Proof reply.evidence.proof a b wanted.proof (λ e. absurd (cc)) only none
+pub touches_proof : (may : Acts) (reply : Reply) (a b : Told) → IsWantedReply may reply → WritesOnly port.Proof a b
+    → (is_some reply.evidence.proof ≡ false → b ≡ a) → Touches may a b
+touches_proof may reply a b wanted only none =
+    touches_by_choice may port.Proof reply.evidence.proof a b wanted.proof (λ e. absurd (cc)) only none
 
-pub touches_drops : (w : Option Wanted) (reply : Reply) (a b : Told) → IsWantedReply w reply → WritesOnly port.Witness a b
-    → (is_some reply.evidence.witness ≡ false → b ≡ a) → Touches w a b
-touches_drops w reply a b wanted only none =
-    touches_by_choice w port.Witness reply.evidence.witness a b wanted.drops (λ e. absurd (cc)) only none
+pub touches_drops : (may : Acts) (reply : Reply) (a b : Told) → IsWantedReply may reply → WritesOnly port.Witness a b
+    → (is_some reply.evidence.witness ≡ false → b ≡ a) → Touches may a b
+touches_drops may reply a b wanted only none =
+    touches_by_choice may port.Witness reply.evidence.witness a b wanted.drops (λ e. absurd (cc)) only none
 
-pub own_proof : (w : Option Wanted) (reply : Reply) (ending : Ending) (a b : Told) → IsWantedReply w reply → WritesOnly port.Proof a b
-    → (is_some reply.evidence.proof ≡ false → b ≡ a) → AllowsEnding w ending → WritesOwn w ending a b
-own_proof w reply ending a b wanted only none allowed =
-    record { touches = touches_proof w reply a b wanted only none; left = only.left; allowed = allowed }
+pub own_proof : (may : Acts) (reply : Reply) (ending : Ending) (a b : Told) → IsWantedReply may reply → WritesOnly port.Proof a b
+    → (is_some reply.evidence.proof ≡ false → b ≡ a) → IsItsOwn may ending → WritesOwn may ending a b
+own_proof may reply ending a b wanted only none own =
+    record { touches = touches_proof may reply a b wanted only none; left = only.left; own = own }
 
-pub own_witness : (w : Option Wanted) (reply : Reply) (a b c : Told) → IsWantedReply w reply → WritesOnly port.Proof a b
+pub own_witness : (may : Acts) (reply : Reply) (a b c : Told) → IsWantedReply may reply → WritesOnly port.Proof a b
     → (is_some reply.evidence.proof ≡ false → b ≡ a) → WritesOnly port.Witness b c
     → (is_some reply.evidence.witness ≡ false → c ≡ b) → IsSome reply.evidence.witness
-    → WritesOwn w (Failed (Write port.Witness)) a c
-own_witness w reply a b c wanted first no_proof second no_drops some = record {
-  touches = touches_more w a b c (touches_proof w reply a b wanted first no_proof) (touches_drops w reply b c wanted second no_drops);
+    → WritesOwn may (Failed (Write port.Witness)) a c
+own_witness may reply a b c wanted first no_proof second no_drops some = record {
+  touches = touches_more may a b c (touches_proof may reply a b wanted first no_proof) (touches_drops may reply b c wanted second no_drops);
   left = λ f. second.left f ∙ first.left f;
-  allowed = record { built = wanted.built; used = wanted.drops some; no_note = λ e. absurd (cc) };
+  own = record { used = wanted.drops some; no_note = λ e. absurd (cc) };
 }
 
-pub own_answer : (w : Option Wanted) (reply : Reply) (ending : Ending) (a b c d : Told) → IsWantedReply w reply
+pub own_answer : (may : Acts) (reply : Reply) (ending : Ending) (a b c d : Told) → IsWantedReply may reply
     → WritesOnly port.Proof a b → (is_some reply.evidence.proof ≡ false → b ≡ a) → WritesOnly port.Witness b c
-    → (is_some reply.evidence.witness ≡ false → c ≡ b) → WritesOnly port.Answer c d → AllowsEnding w ending → WritesOwn w ending a d
-own_answer w reply ending a b c d wanted first no_proof second no_drops third allowed = record {
-  touches = touches_more w a b d (touches_proof w reply a b wanted first no_proof)
-      (touches_more w b c d (touches_drops w reply b c wanted second no_drops)
-      (touches_by_write w port.Answer c d wanted.built (λ e. absurd (cc)) third));
+    → (is_some reply.evidence.witness ≡ false → c ≡ b) → WritesOnly port.Answer c d → IsItsOwn may ending → WritesOwn may ending a d
+own_answer may reply ending a b c d wanted first no_proof second no_drops third own = record {
+  touches = touches_more may a b d (touches_proof may reply a b wanted first no_proof)
+      (touches_more may b c d (touches_drops may reply b c wanted second no_drops)
+      (touches_by_write may port.Answer c d wanted.answer (λ e. absurd (cc)) third));
   left = λ f. third.left f ∙ second.left f ∙ first.left f;
-  allowed = allowed;
+  own = own;
 }
 
 -- ---- from a reply that was written to what was done

@@ -1,6 +1,10 @@
-pub mod Words
+pub mod Causes
+pub mod Verdicts
 pub mod Notes
 pub mod Endings
 pub mod Texts
+pub mod Extracting
+pub mod Checking
+pub mod Words
 pub mod Outcome
 pub mod Steps

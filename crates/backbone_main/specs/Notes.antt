@@ -12,8 +12,7 @@ use Rattle.dimacs_reader.specs.declared.fault.BadKind.{BadKind}
 use Rattle.dimacs_reader.specs.declared.fault.BadKind.TheVariants as kind
 use Rattle.dimacs_reader.specs.declared.fault.Fault.{Fault}
 use Rattle.backbone_main.specs.declared.ending.Ending.{Ending}
-use Rattle.backbone_main.specs.declared.ending.Ending.TheVariants.{Complete, Unsatisfiable, Unfinished, Unknown, OutOfMemory, BadText, TooLong}
-use Rattle.backbone_main.specs.declared.ending.Ending.TheVariants.{NotBuilt, Failed, Usage}
+use Rattle.backbone_main.specs.declared.ending.Ending.TheVariants.{OutOfMemory, BadText, TooLong, Failed, Usage}
 
 -- the number of a kind of fault
 abbrev pub kind_number : BadKind → ℕ
@@ -66,16 +65,12 @@ named_note words name end = (words ++ name) ++ end
 
 -- the note of an ending
 abbrev pub note_of : Ending → List ℕ
-note_of Complete = []
-note_of Unsatisfiable = []
 note_of OutOfMemory = codes "error: out of memory\n"
 note_of (BadText fault) = fault_note fault
 note_of (TooLong f) = named_note (codes "error: ") (feed_name f) (codes " too long\n")
-note_of Unfinished = []
-note_of Unknown = []
-note_of NotBuilt = []
 note_of (Failed act) = named_note (failed_words act) (place_name act) (codes "\n")
 note_of Usage = codes "usage: backbone extract|check|sample [options] [names]\n"
+note_of ending = []
 
 -- the Notes port gained a front of the note, and all of it unless a write to that port failed
 pub record GainsNote (note : List ℕ) (old new : Told) : Type 0 where

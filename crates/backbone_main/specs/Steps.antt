@@ -2,3 +2,4 @@ pub mod Finish
 pub mod Replies
 pub mod Open
 pub mod Numbered
+pub mod Judging

@@ -1,4 +1,4 @@
--- What a run over a formula is to write, by how it ends.
+-- What `extract` is to write for a formula, by how it ends.
 use Rattle.std.specs.Prelude.{◌≡◌, ◌≢◌, ◌<◌, ◌≤◌, ◌⊎◌, ℕ, Bool, true, false, IsTrue, List, [], ◌∷◌, ◌++◌, length, map, All, AllPairs, Contains}
 use Rattle.bone_desk.specs.declared.desk.Port.{Port}
 use Rattle.bone_desk.specs.declared.desk.Port.TheVariants as port
@@ -15,10 +15,12 @@ use Rattle.model_store.specs.declared.witness.Witness.{Witness}
 use Rattle.witness_text.specs.WitnessText.{store_text}
 use Rattle.run_core.specs.Outcomes.{IsSpent, IsDropped}
 use Rattle.backbone_main.specs.declared.task.Files.{Files}
-use Rattle.backbone_main.specs.Words.{no_files}
 use Rattle.backbone_main.specs.declared.ending.Ending.{Ending}
-use Rattle.backbone_main.specs.declared.ending.Ending.TheVariants.{Complete, Unsatisfiable, Unfinished, Unknown, OutOfMemory, BadText, TooLong}
-use Rattle.backbone_main.specs.declared.ending.Ending.TheVariants.{NotBuilt, Failed, Usage}
+use Rattle.backbone_main.specs.declared.ending.Ending.TheVariants.{Complete, Unsatisfiable, Unfinished, Unknown, OutOfMemory}
+
+-- no files are wanted beside the answer
+abbrev pub no_files : Files
+no_files = record { proof = false; witness = false }
 
 -- what the three ports are to get
 pub record Texts : Type 0 where
@@ -144,8 +146,4 @@ TextsSay workers budget files Unsatisfiable F texts = TellsNoModel files F texts
 TextsSay workers budget files Unfinished F texts = TellsPart files F texts × AreSpent F workers budget
 TextsSay workers budget files Unknown F texts = TellsNothing texts × AreSpent F 1 budget
 TextsSay workers budget files OutOfMemory F texts = TellsPart no_files F texts
-TextsSay workers budget files (BadText fault) F texts = ⊥
-TextsSay workers budget files (TooLong f) F texts = ⊥
-TextsSay workers budget files NotBuilt F texts = ⊥
-TextsSay workers budget files (Failed act) F texts = ⊥
-TextsSay workers budget files Usage F texts = ⊥
+TextsSay workers budget files ending F texts = ⊥

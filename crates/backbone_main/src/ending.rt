@@ -1,6 +1,8 @@
 ghost use Rattle.std.specs.Prelude.{◌≡◌};
 ghost use Rattle.backbone_main.specs.Endings.{code_of, failure_code};
+ghost use Rattle.backbone_main.specs.Verdicts.{verdict_code};
 
+use bone_check::Verdict;
 use bone_desk::{Act, Feed};
 use dimacs_reader::Fault;
 
@@ -15,6 +17,8 @@ pub enum Ending {
     Unfinished,
     /// Whether the formula has a model was not found out within the budget, and that was written.
     Unknown,
+    /// An answer was judged, and the verdict was written.
+    Judged(Verdict),
     /// There was too little memory. What was known then of the backbone was written, or a front of the proof, or nothing.
     OutOfMemory,
     /// The text means no formula: this is its first fault.
@@ -39,6 +43,7 @@ impl Ending {
             Ending::Unsatisfiable => 20,
             Ending::Unfinished => 30,
             Ending::Unknown => 31,
+            Ending::Judged(verdict) => verdict_code(verdict),
             Ending::OutOfMemory => 40,
             Ending::BadText(_) => 50,
             Ending::TooLong(_) => 51,
@@ -46,6 +51,19 @@ impl Ending {
             Ending::Failed(act) => failure_code(act),
             Ending::Usage => 64,
         }
+    }
+}
+
+/// The status where an answer was judged so.
+fn verdict_code(verdict: Verdict) -> u8
+    ensures { result ≡ verdict_code verdict }
+{
+    match verdict {
+        Verdict::Verified => 0,
+        Verdict::NotVerified {
+            reason: _reason,
+            place: _place,
+        } => 1,
     }
 }
 

@@ -1,9 +1,12 @@
 //! The program `backbone`: the literals that all models of a formula make true.
 #![tactic(auto)]
 
+mod check;
 mod ending;
 #[cfg(test)]
 mod enumeration;
+mod extract;
+mod job;
 mod note;
 mod open_part;
 mod reply;
@@ -11,6 +14,8 @@ mod serve;
 mod task;
 #[cfg(test)]
 mod tests;
+mod text;
+mod verdict_text;
 
 use crate::ending::Ending;
 use crate::serve::{report, serve};

@@ -36,6 +36,7 @@ fn push_note<D: Desk>(desk: &mut D, buffer: &mut PortBuffer, ending: Ending) -> 
         | Ending::Unsatisfiable
         | Ending::Unfinished
         | Ending::Unknown
+        | Ending::Judged(_)
         | Ending::NotBuilt => Ok(()),
         Ending::OutOfMemory => buffer.push(desk, b"error: out of memory\n"),
         Ending::BadText(fault) => push_fault(desk, buffer, fault),
@@ -125,7 +126,7 @@ fn push_fault<D: Desk>(desk: &mut D, buffer: &mut PortBuffer, fault: Fault) -> R
 }
 
 /// Some words, and a number.
-fn push_number<D: Desk>(
+pub fn push_number<D: Desk>(
     desk: &mut D,
     buffer: &mut PortBuffer,
     words: &[u8],

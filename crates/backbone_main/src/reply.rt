@@ -9,13 +9,12 @@ ghost use Rattle.lrat_lines.specs.Writings.{HasCause};
 ghost use Rattle.lrat_log.specs.Entries.{Recorded};
 ghost use Rattle.answer_text.specs.AnswerText.{IsInOrder, IsPartialInOrder, partial_text, text_of};
 ghost use Rattle.run_core.specs.Outcomes.{OutcomeSays, IsComplete, IsRefuted, IsSpent, IsUnfinished};
-ghost use Rattle.bone_words.specs.Settings.{Wanted};
-ghost use Rattle.backbone_main.specs.Words.{IsBuilt, files_of, uses};
-ghost use Rattle.backbone_main.specs.Endings.{AllowsEnding};
+ghost use Rattle.backbone_main.specs.Causes.{Acts};
+ghost use Rattle.backbone_main.specs.Endings.{IsItsOwn};
 ghost use Rattle.backbone_main.specs.Texts.{Texts, AreSpent, TellsBackbone, TellsNoModel, TellsNothing, TellsPart, TextsSay};
-ghost use Rattle.backbone_main.specs.Outcome.{IsCutAt, StopsWhere};
+ghost use Rattle.backbone_main.specs.Extracting.{IsCutAt, StopsWhere};
 ghost use Rattle.backbone_main.specs.Steps.Replies.{IsWritable, HoldsDrops, IsKeptDrops, proof_text_of, drops_text_of, texts_of};
-ghost use Rattle.backbone_main.specs.Steps.Replies.{EndsWriting, Finishes, HasEnded, IsWantedReply};
+ghost use Rattle.backbone_main.specs.Steps.Replies.{AllowsFiles, EndsWriting, Finishes, HasEnded, IsWantedReply};
 ghost use Rattle.backbone_main.specs.Steps.Finish.{WritesOwn};
 
 use crate::ending::Ending;
@@ -70,8 +69,7 @@ pub fn deliver<D: Desk>(
     requires ended { HasEnded formula.now outcome }
     ensures finishes { (workers budget : ℕ) → 1 ≤ workers → OutcomeSays formula.now workers budget outcome.entry
         → Finishes workers budget files formula.now result (D.told desk.old) (D.told desk.new) }
-    ensures own { (wanted : Option Wanted) → IsBuilt wanted → files ≡ files_of wanted
-        → WritesOwn wanted result (D.told desk.old) (D.told desk.new) }
+    ensures own { (may : Acts) → AllowsFiles may files → WritesOwn may result (D.told desk.old) (D.told desk.new) }
 {
     match reply_to(alloc, formula, files, outcome) {
         Ok(reply) => write(alloc, formula, &reply, desk),
@@ -84,8 +82,7 @@ fn write<D: Desk>(alloc: Global, formula: &Formula, reply: &Reply, desk: &mut D)
     requires order { IsInOrder reply.now.answer }
     requires writable { IsWritable formula.now reply.now.evidence }
     ensures writes { EndsWriting (texts_of reply.now) reply.now.ending result (D.told desk.old) (D.told desk.new) }
-    ensures own { (wanted : Option Wanted) → IsWantedReply wanted reply.now
-        → WritesOwn wanted result (D.told desk.old) (D.told desk.new) }
+    ensures own { (may : Acts) → IsWantedReply may reply.now → WritesOwn may result (D.told desk.old) (D.told desk.new) }
 {
     if let Err(end) = put_proof(alloc, &reply.evidence.proof, desk) {
         return ending_of(end);
@@ -101,8 +98,7 @@ fn write<D: Desk>(alloc: Global, formula: &Formula, reply: &Reply, desk: &mut D)
 
 /// How a run ends whose proof was not written whole.
 fn ending_of(end: ProofEnd) -> Ending
-    ensures allowed { (wanted : Option Wanted) → IsBuilt wanted → uses wanted (Act.Write Port.Proof) ≡ true
-        → AllowsEnding wanted result }
+    ensures own { (may : Acts) → may (Act.Write Port.Proof) ≡ true → IsItsOwn may result }
     ensures stops { (texts : Texts) (old new : Told) → IsCutAt Port.Proof texts old new → HasCause end old new
         → StopsWhere texts result old new }
 {
@@ -160,8 +156,7 @@ fn reply_to<'f>(
     ensures writable { IfOk result (λ reply. IsWritable formula.now reply.evidence) }
     ensures says { IfOk result (λ reply. (workers budget : ℕ) → 1 ≤ workers → OutcomeSays formula.now workers budget outcome.entry
         → TextsSay workers budget files reply.ending formula.now (texts_of reply)) }
-    ensures wanted { IfOk result (λ reply. (wanted : Option Wanted) → IsBuilt wanted → files ≡ files_of wanted
-        → IsWantedReply wanted reply) }
+    ensures wanted { IfOk result (λ reply. (may : Acts) → AllowsFiles may files → IsWantedReply may reply) }
 {
     match outcome {
         Outcome::Complete(report) => Ok(whole(files, report)),

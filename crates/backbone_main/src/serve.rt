@@ -4,18 +4,19 @@ ghost use Rattle.std.specs.String.{string_bytes};
 ghost use Rattle.bone_desk.specs.Told.{Told, WritesOnly};
 ghost use Rattle.bone_words.specs.Settings.{settings_of, Wanted};
 ghost use Rattle.backbone_main.specs.Notes.{note_of, GainsNote};
-ghost use Rattle.backbone_main.specs.Endings.{code_of, workers_of};
+ghost use Rattle.backbone_main.specs.Endings.{code_of};
+ghost use Rattle.backbone_main.specs.Words.{workers_of};
 ghost use Rattle.backbone_main.specs.Outcome.{Serves};
 ghost use Rattle.backbone_main.specs.Steps.Finish.{Runs};
 
+use crate::check::check;
 use crate::ending::Ending;
+use crate::extract::{extract, extract_alone};
+use crate::job::{Job, read_words};
 use crate::note::write_note;
-use crate::reply::deliver;
-use crate::task::read_task;
 use bone_desk::{Desk, Port};
 use chooser_core::Chooser;
 use lrat_log::laws::no_log_is_full;
-use run_core::{run_many, run_one};
 use std::alloc::Global;
 use std::thread::Threads;
 use worker_loop::Gate;
@@ -25,27 +26,31 @@ use worker_loop::Gate;
 /// Worker w asks the chooser at place w, and passes the gate before each of its turns. All choosers are dropped by the
 /// end.
 ///
-/// The text is opened first, then the files that are named, the proof's before the witness's. What was found is written in
-/// the order proof, witness, answer.
+/// `extract` opens the text first, then the files that are named, the proof's before the witness's. What was found is
+/// written in the order proof, witness, answer. `check` opens the text, the answer, the proof and the witness, the last
+/// where it is named, and reads them in that order. It uses no worker.
 ///
 /// | Status | What happened |
 /// |---|---|
-/// | 10 | the backbone was written: its literals whose variables are shown; before it the files that are named |
-/// | 20 | the formula has no model, and that was written; before it the proof, where it is named, and no witness |
-/// | 30 | a part of the backbone, with its evidence, and the literals that are still open: every worker spent its budget |
-/// | 31 | that nothing is known was written, without evidence: no model was found within the budget |
-/// | 40 | there was too little memory; what was known of the backbone then was written, or a front of the proof, or nothing |
+/// | 0 | `check`: the answer, the proof and the witness pass all tests, and that was written |
+/// | 1 | `check`: the first test that fails was written, and its place |
+/// | 10 | `extract`: the backbone was written: its literals whose variables are shown; before it the files that are named |
+/// | 20 | `extract`: the formula has no model, and that was written; before it the proof, where it is named, and no witness |
+/// | 30 | `extract`: a part of the backbone, with its evidence, and the literals that are still open: every worker spent its budget |
+/// | 31 | `extract`: that nothing is known was written, without evidence: no model was found within the budget |
+/// | 40 | there was too little memory; nothing was written, or by `extract` what was known of the backbone then, or a front of the proof |
 /// | 50 | the text means no formula; nothing was written |
-/// | 51 | the text has more than 2^27 bytes; nothing was written |
-/// | 52 | not built yet: the words ask for more, and nothing was opened |
-/// | 60 | the text could not be read; nothing was written |
+/// | 51 | a feed has more bytes than are read: 2^27 of a text or an answer, 2^45 of a proof or a witness; nothing was written |
+/// | 52 | `sample`: not built yet; nothing was opened |
+/// | 60 | a feed could not be read; nothing was written |
 /// | 61 | a port could not be written; it has a front of its text, those before it have all, and those behind it nothing |
-/// | 62 | the text or a file that is named could not be opened; nothing was written |
+/// | 62 | a feed or port that is named could not be opened; nothing was read or written |
 /// | 64 | the words have no settings; nothing was done |
 ///
-/// Where several causes stand together the order is 64, 52, 62, then 60 or 51, whichever came first, 50, the end of the
-/// run, 61. Status 40 may stand at any place, also before 64, since the words are read with memory, and no clause ties
-/// it to a refused growth.
+/// Where several causes stand together the order is 64, 52, 62, then for the text 60 or 51, whichever came first, and 50.
+/// Then come the end of the run or the tests of `check`, in which 60 and 51 stand at the feed that is read, and 61.
+/// Status 40 may stand at any place, also before 64, since the words are read with memory, and no clause ties it to a
+/// refused growth.
 ///
 /// The note of the ending is written last, to the port of the notes. A fault of that write ends the note, and changes
 /// no status.
@@ -111,11 +116,10 @@ fn run_threads<R: Threads + Sync, D: Desk, G: Gate>(
     ensures { Runs (workers_of (settings_of (map string_bytes words.now))) (settings_of (map string_bytes words.now)) result
         (D.told desk.old) (D.told desk.new) }
 {
-    match read_task(alloc, words, desk) {
-        Ok(task) => {
-            let outcome = run_many(rt, alloc, &task.formula, task.settings, choosers, gate);
-            deliver(alloc, &task.formula, task.files, outcome, desk)
-        }
+    match read_words(alloc, words) {
+        Ok(Job::Extract(extraction)) => extract(rt, alloc, &extraction, desk, choosers, gate),
+        Ok(Job::Check(checking)) => check(alloc, &checking, desk),
+        Ok(Job::Sample) => Ending::NotBuilt,
         Err(ending) => ending,
     }
 }
@@ -130,11 +134,10 @@ fn run_alone<D: Desk>(
     requires { length choosers.items ≡ 16 }
     ensures { Runs 1 (settings_of (map string_bytes words.now)) result (D.told desk.old) (D.told desk.new) }
 {
-    match read_task(alloc, words, desk) {
-        Ok(task) => {
-            let outcome = run_one(alloc, &task.formula, task.settings, choosers);
-            deliver(alloc, &task.formula, task.files, outcome, desk)
-        }
+    match read_words(alloc, words) {
+        Ok(Job::Extract(extraction)) => extract_alone(alloc, &extraction, desk, choosers),
+        Ok(Job::Check(checking)) => check(alloc, &checking, desk),
+        Ok(Job::Sample) => Ending::NotBuilt,
         Err(ending) => ending,
     }
 }

@@ -1,5 +1,6 @@
 -- What is said of the feeds, by what is said of the answer and of the rest.
-use Rattle.std.proofs.Common.{◌≡◌, ◌≢◌, ℕ, ◌<◌, ◌≤◌, ◌-◌, ◌^◌, Bool, true, false, if◌then◌else◌, List, [], ◌++◌, Result, Ok, Err, length, refl, sym, ap, ◌∙◌, subst, inl, inr, arith, append-nil}
+use Rattle.std.proofs.Common.{◌≡◌, ◌≢◌, ℕ, ◌<◌, ◌≤◌, ◌-◌, ◌^◌, Bool, true, false, if◌then◌else◌, List, [], ◌++◌, Result, Ok, Err, length, refl, sym, ap, ◌∙◌, subst, inl, inr, arith, append-nil, true≢false}
+use Rattle.std.specs.Prelude.{IsTrue, IsFalse}
 use Rattle.std.proofs.lemmas.Bool.{cases_lt}
 use Rattle.bone_desk.specs.Told.{Told, Took, AtEnd, Rose}
 use Rattle.bone_desk.specs.declared.desk.Act.{Act}
@@ -21,9 +22,9 @@ use Rattle.bone_check.specs.declared.verdict.CheckEnd.{CheckEnd}
 use Rattle.bone_check.specs.declared.verdict.CheckEnd.TheVariants.{Fault, TooLong, Memory}
 use Rattle.bone_check.specs.Verdicts.{verdict_of, proof_reading, answer_reason, answer_verdict, read_verdict}
 use Rattle.bone_check.specs.ProofFeed.{IsLeft}
-use Rattle.bone_check.specs.Checks.{Texts, AllCame, limit_of, Says, IsVerdict, ChecksAll, verdict_on}
+use Rattle.bone_check.specs.Checks.{Texts, AllCame, is_read, limit_of, Says, IsVerdict, ChecksAll, verdict_on}
 use Rattle.bone_check.specs.Steps.Parts.{texts_of, ChecksRest}
-use Rattle.bone_check.proofs.Gathered.{came_none, all_came, all_within, at_end, Judge, judged_on}
+use Rattle.bone_check.proofs.Gathered.{came_none, all_came, untouched, all_within, at_end, Judge, judged_on}
 
 -- a text that reads as an answer is judged as such
 pub judged_answer : (F : Cnf) (answer proof witness : List ℕ) (r : AnswerRead) → reading_of F.vars answer ≡ Ok r
@@ -46,10 +47,9 @@ pub answer_decides : (F : Cnf) (witness : Bool) (old new : Told) (answer : List 
     → ChecksAll F witness old new (Ok verdict)
 answer_decides F witness old new answer verdict came whole decides = record {
   came = texts_of answer [] [];
-  all = all_came old new new new answer [] [] came (came_none feed.Proof new) (came_none feed.Witness new);
+  all = all_came witness old new new new answer [] [] came (came_none feed.Proof new) (came_none feed.Witness new) (λ isnt. untouched new);
   says = record {
     within = all_within answer [] [] whole.within (omega arith) (omega arith);
-    unasked = λ is. refl;
     whole = λ rest left.
         ap (λ (t : List ℕ). verdict_of F t ([] ++ rest feed.Proof) (if witness then [] ++ rest feed.Witness else []))
         (at_end feed.Answer new answer (rest feed.Answer) whole.whole (left feed.Answer))
@@ -68,7 +68,7 @@ pub answer_ends : (F : Cnf) (witness : Bool) (old new : Told) (answer : List ℕ
     → Says witness old new (texts_of answer [] []) (verdict_on F witness) (Err end) → ChecksAll F witness old new (Err end)
 answer_ends F witness old new answer end came says = record {
   came = texts_of answer [] [];
-  all = all_came old new new new answer [] [] came (came_none feed.Proof new) (came_none feed.Witness new);
+  all = all_came witness old new new new answer [] [] came (came_none feed.Proof new) (came_none feed.Witness new) (λ isnt. untouched new);
   says = says;
 }
 
@@ -81,14 +81,13 @@ rose_since act old mid new first second rose lt = elim (cases_lt (mid.faults act
 
 -- the rest decides
 rest_says : (F : Cnf) (witness : Bool) (old mid new : Told) (answer proof evidence : List ℕ) (judge : Judge) (result : Result Verdict CheckEnd)
-    → Came feed.Answer old mid answer → CameWhole feed.Answer (2 ^ 27) mid answer → AllCame mid new (texts_of [] proof evidence)
+    → Came feed.Answer old mid answer → CameWhole feed.Answer (2 ^ 27) mid answer → AllCame witness mid new (texts_of [] proof evidence)
     → new.left feed.Answer ≡ mid.left feed.Answer
     → ((p w : List ℕ) → verdict_of F answer p w ≡ judge (proof_reading F p) (witness_reading F.vars w))
     → Says witness mid new (texts_of [] proof evidence) (judged_on F witness judge) result
     → Says witness old new (texts_of answer proof evidence) (verdict_on F witness) result
 rest_says F witness old mid new answer proof evidence judge (Ok verdict) came whole all same decides says = record {
   within = all_within answer proof evidence whole.within (says.within feed.Proof) (says.within feed.Witness);
-  unasked = says.unasked;
   whole = λ rest left.
       ap (λ (t : List ℕ). verdict_of F t (proof ++ rest feed.Proof) (if witness then evidence ++ rest feed.Witness else []))
       (at_end feed.Answer mid answer (rest feed.Answer) whole.whole (sym same ∙ left feed.Answer))
@@ -96,25 +95,31 @@ rest_says F witness old mid new answer proof evidence judge (Ok verdict) came wh
       ∙ says.whole rest left;
 }
 rest_says F witness old mid new answer proof evidence judge (Err (Fault f)) came whole all same decides says =
-    rose_since (Read f) old mid new (counts_never_fall came.only.counts (Read f)) (all.never_falls (Read f)) says
+    (says.0, rose_since (Read f) old mid new (counts_never_fall came.only.counts (Read f)) (all.never_falls (Read f)) says.1)
 rest_says F witness old mid new answer proof evidence judge (Err (TooLong feed.Text)) came whole all same decides says = says
 rest_says F witness old mid new answer proof evidence judge (Err (TooLong feed.Answer)) came whole all same decides says = absurd (omega arith)
 rest_says F witness old mid new answer proof evidence judge (Err (TooLong feed.Proof)) came whole all same decides says = says
 rest_says F witness old mid new answer proof evidence judge (Err (TooLong feed.Witness)) came whole all same decides says = says
 rest_says F witness old mid new answer proof evidence judge (Err Memory) came whole all same decides says = tt
 
-both_came : (old mid new : Told) (answer proof evidence : List ℕ) → Came feed.Answer old mid answer → AllCame mid new (texts_of [] proof evidence)
-    → AllCame old new (texts_of answer proof evidence)
-both_came old mid new answer proof evidence came all =
-    let first = all_came old mid mid mid answer [] [] came (came_none feed.Proof mid) (came_none feed.Witness mid) in
+both_came : (witness : Bool) (old mid new : Told) (answer proof evidence : List ℕ) → Came feed.Answer old mid answer → AllCame witness mid new (texts_of [] proof evidence)
+    → AllCame witness old new (texts_of answer proof evidence)
+both_came witness old mid new answer proof evidence came all =
+    let first = all_came witness old mid mid mid answer [] [] came (came_none feed.Proof mid) (came_none feed.Witness mid) (λ isnt. untouched mid) in
     record {
       took = took first;
+      unread = unread;
       put = λ p. all.put p ∙ first.put p;
       others = λ act no. all.others act no ∙ first.others act no;
       never_falls = λ act. let one = first.never_falls act in let two = all.never_falls act in omega arith;
     }
   where
-    took : AllCame old mid (texts_of answer [] []) → (f : Feed) → Took f (texts_of answer proof evidence f) old new
+    unread : (f : Feed) → IsFalse (is_read witness f) → texts_of answer proof evidence f ≡ []
+    unread feed.Text isnt = refl
+    unread feed.Answer isnt = absurd (true≢false isnt)
+    unread feed.Proof isnt = absurd (true≢false isnt)
+    unread feed.Witness isnt = all.unread feed.Witness isnt
+    took : AllCame witness old mid (texts_of answer [] []) → (f : Feed) → Took f (texts_of answer proof evidence f) old new
     took first feed.Text = took_more feed.Text [] [] old mid new (first.took feed.Text) (all.took feed.Text)
     took first feed.Answer =
         subst (λ (t : List ℕ). Took feed.Answer t old new) (append-nil answer)
@@ -128,6 +133,6 @@ pub rest_decides : (F : Cnf) (witness : Bool) (old mid new : Told) (answer : Lis
     → ChecksRest witness mid new (judged_on F witness judge) result → ChecksAll F witness old new result
 rest_decides F witness old mid new answer judge result came whole decides rest = record {
   came = texts_of answer rest.proof rest.evidence;
-  all = both_came old mid new answer rest.proof rest.evidence came rest.all;
+  all = both_came witness old mid new answer rest.proof rest.evidence came rest.all;
   says = rest_says F witness old mid new answer rest.proof rest.evidence judge result came whole rest.all rest.answer_left decides rest.says;
 }

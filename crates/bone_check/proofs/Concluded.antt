@@ -1,5 +1,6 @@
 -- What is said of the feeds, by what is said of the proof and of the witness.
-use Rattle.std.proofs.Common.{◌≡◌, ◌≢◌, ℕ, ◌<◌, ◌≤◌, ◌-◌, ◌^◌, ◌+◌, Bool, true, false, if◌then◌else◌, List, [], ◌∷◌, ◌++◌, Option, Some, None, Result, Ok, Err, length, refl, sym, ap, ◌∙◌, subst, arith}
+use Rattle.std.proofs.Common.{◌≡◌, ◌≢◌, ℕ, ◌<◌, ◌≤◌, ◌-◌, ◌^◌, ◌+◌, Bool, true, false, if◌then◌else◌, List, [], ◌∷◌, ◌++◌, Option, Some, None, Result, Ok, Err, length, refl, sym, ap, ◌∙◌, subst, arith, true≢false}
+use Rattle.std.specs.Prelude.{IsTrue}
 use Rattle.bone_desk.specs.Told.{Told, Rose}
 use Rattle.bone_desk.specs.declared.desk.Act.{Act}
 use Rattle.bone_desk.specs.declared.desk.Act.TheVariants.{Read}
@@ -29,14 +30,15 @@ use Rattle.bone_check.specs.Tests.{at_place, ◌then◌, each_from}
 use Rattle.bone_check.specs.Proving.{has_empty, empty_fault, unit_fault}
 use Rattle.bone_check.specs.Verdicts.{unsat_verdict, no_lines, sat_verdict, evidence_verdict}
 use Rattle.bone_check.specs.ProofFeed.{ReadsProof, ProofSays}
-use Rattle.bone_check.specs.Checks.{Texts, Says, limit_of}
+use Rattle.bone_check.specs.Checks.{Texts, Says, is_read, limit_of}
 use Rattle.bone_check.specs.Steps.Parts.{texts_of, ChecksRest}
-use Rattle.bone_check.specs.Steps.Evidence.{ReadsEvidence, EvidenceSays, reading_told, IsReadEvidence, JudgesEvidence}
-use Rattle.bone_check.proofs.Gathered.{came_none, all_came, Judge, judged_on, fails_in_proof, decided_by_proof, decided_by_both}
+use Rattle.bone_check.specs.Steps.Evidence.{ReadsEvidence, EvidenceSays, IsUnasked, reading_told, IsReadEvidence, JudgesEvidence}
+use Rattle.bone_check.proofs.Gathered.{came_none, all_came, untouched, IsUntouched, Judge, judged_on, fails_in_proof, decided_by_proof, decided_by_both}
 
 proof_end_says : (F : Cnf) (witness : Bool) (old new : Told) (text : List ℕ) (means : Texts → Verdict) (end : CheckEnd)
     → ProofSays F old new text (Err end) → Says witness old new (texts_of [] text []) means (Err end)
-proof_end_says F witness old new text means (Fault f) said = subst (λ (x : Feed). Rose (Read x) old new) (sym said.0) said.1.rose
+proof_end_says F witness old new text means (Fault f) said =
+    subst (λ (x : Feed). IsTrue (is_read witness x) × Rose (Read x) old new) (sym said.0) (refl, said.1.rose)
 proof_end_says F witness old new text means (TooLong f) said =
     subst (λ (x : Feed). limit_of x < length (texts_of [] text [] x)) (sym said.0) said.1
 proof_end_says F witness old new text means Memory said = tt
@@ -48,7 +50,7 @@ proof_ends F witness old new means end reads = record {
   proof = reads.text;
   evidence = [];
   answer_left = reads.came.only.left feed.Answer (λ e. cc e);
-  all = all_came old old new new [] reads.text [] (came_none feed.Answer old) reads.came (came_none feed.Witness new);
+  all = all_came witness old old new new [] reads.text [] (came_none feed.Answer old) reads.came (came_none feed.Witness new) (λ isnt. untouched new);
   says = proof_end_says F witness old new reads.text means end reads.answer;
 }
 
@@ -60,7 +62,7 @@ proof_fails F witness old new judge reason line decides reads = record {
   proof = reads.text;
   evidence = [];
   answer_left = reads.came.only.left feed.Answer (λ e. cc e);
-  all = all_came old old new new [] reads.text [] (came_none feed.Answer old) reads.came (came_none feed.Witness new);
+  all = all_came witness old old new new [] reads.text [] (came_none feed.Answer old) reads.came (came_none feed.Witness new) (λ isnt. untouched new);
   says = fails_in_proof F witness judge new reads.text reason line decides reads.answer;
 }
 
@@ -72,20 +74,30 @@ proof_decides F witness old new judge kept verdict decides reads = record {
   proof = reads.text;
   evidence = [];
   answer_left = reads.came.only.left feed.Answer (λ e. cc e);
-  all = all_came old old new new [] reads.text [] (came_none feed.Answer old) reads.came (came_none feed.Witness new);
+  all = all_came witness old old new new [] reads.text [] (came_none feed.Answer old) reads.came (came_none feed.Witness new) (λ isnt. untouched new);
   says = decided_by_proof F witness judge new reads.text kept verdict reads.answer (decides reads.answer.lines reads.answer.stands);
 }
 
+-- what isn't asked for isn't touched, and gives no error
+unasked_same : {n : ℕ} {witness : Bool} {mid new : Told} {result : Result Evidence CheckEnd} → (tells : ReadsEvidence n witness mid new result)
+    → witness ≡ false → IsUntouched mid new tells.text
+unasked_same tells isnt = record { none = (tells.unasked isnt).none; same = (tells.unasked isnt).same }
+
+asked_at_err : {mid new : Told} {text : List ℕ} {end : CheckEnd} (witness : Bool) → (witness ≡ false → IsUnasked mid new text (Err end))
+    → witness ≡ true
+asked_at_err true unasked = refl
+asked_at_err false unasked = absurd (true≢false (sym (unasked refl).fine))
+
 evidence_end_says : (F : Cnf) (witness : Bool) (old mid new : Told) (n : ℕ) (proof text : List ℕ) (means : Texts → Verdict) (end : CheckEnd)
     → mid.faults (Read feed.Witness) ≡ old.faults (Read feed.Witness) → EvidenceSays n witness mid new text (Err end)
-    → Says witness old new (texts_of [] proof text) means (Err end)
-evidence_end_says F witness old mid new n proof text means (Fault f) same said =
+    → witness ≡ true → Says witness old new (texts_of [] proof text) means (Err end)
+evidence_end_says F witness old mid new n proof text means (Fault f) same said asked =
     let rose : Rose (Read feed.Witness) old new =
     subst (λ (k : ℕ). k < 2 ^ 64 - 1 → k < new.faults (Read feed.Witness)) same said.1.rose in
-    subst (λ (x : Feed). Rose (Read x) old new) (sym said.0) rose
-evidence_end_says F witness old mid new n proof text means (TooLong f) same said =
+    subst (λ (x : Feed). IsTrue (is_read witness x) × Rose (Read x) old new) (sym said.0) (asked, rose)
+evidence_end_says F witness old mid new n proof text means (TooLong f) same said asked =
     subst (λ (x : Feed). limit_of x < length (texts_of [] proof text x)) (sym said.0) said.1
-evidence_end_says F witness old mid new n proof text means Memory same said = tt
+evidence_end_says F witness old mid new n proof text means Memory same said asked = tt
 
 -- the witness wasn't read
 pub evidence_ends : (F : Cnf) (witness : Bool) (old mid new : Told) (n : ℕ) (means : Texts → Verdict) (kept : Kept) (end : CheckEnd)
@@ -94,9 +106,9 @@ evidence_ends F witness old mid new n means kept end reads tells = record {
   proof = reads.text;
   evidence = tells.text;
   answer_left = tells.came.only.left feed.Answer (λ e. cc e) ∙ reads.came.only.left feed.Answer (λ e. cc e);
-  all = all_came old old mid new [] reads.text tells.text (came_none feed.Answer old) reads.came tells.came;
+  all = all_came witness old old mid new [] reads.text tells.text (came_none feed.Answer old) reads.came tells.came (unasked_same tells);
   says = evidence_end_says F witness old mid new n reads.text tells.text means end
-      (reads.came.only.counts.others (Read feed.Witness) (λ e. cc e)) tells.answer;
+      (reads.came.only.counts.others (Read feed.Witness) (λ e. cc e)) tells.answer (asked_at_err witness tells.unasked);
 }
 
 -- both decide
@@ -108,8 +120,9 @@ both_decide F witness old mid new judge kept evidence verdict decides reads tell
   proof = reads.text;
   evidence = tells.text;
   answer_left = tells.came.only.left feed.Answer (λ e. cc e) ∙ reads.came.only.left feed.Answer (λ e. cc e);
-  all = all_came old old mid new [] reads.text tells.text (came_none feed.Answer old) reads.came tells.came;
+  all = all_came witness old old mid new [] reads.text tells.text (came_none feed.Answer old) reads.came tells.came (unasked_same tells);
   says = decided_by_both F witness judge mid new reads.text tells.text kept evidence verdict reads.answer tells.came tells.answer
+      (λ isnt. (tells.unasked isnt).none)
       (decides reads.answer.lines reads.answer.stands);
 }
 
@@ -144,7 +157,7 @@ evidence_judged F witness old mid new fixed kept evidence (Err Memory) passed ve
   proof = reads.text;
   evidence = tells.text;
   answer_left = tells.came.only.left feed.Answer (λ e. cc e) ∙ reads.came.only.left feed.Answer (λ e. cc e);
-  all = all_came old old mid new [] reads.text tells.text (came_none feed.Answer old) reads.came tells.came;
+  all = all_came witness old old mid new [] reads.text tells.text (came_none feed.Answer old) reads.came tells.came (unasked_same tells);
   says = tt;
 }
 evidence_judged F witness old mid new fixed kept evidence (Err (Fault f)) passed verified reads tells judged = absurd judged

@@ -1,6 +1,6 @@
 -- What came of the three feeds, one after another.
-use Rattle.std.proofs.Common.{◌≡◌, ◌≢◌, ℕ, ◌≤◌, ◌^◌, Bool, true, false, if◌then◌else◌, List, [], ◌++◌, Result, Ok, Err, length, refl, sym, ap, ◌∙◌, subst, arith, append-nil}
-use Rattle.std.specs.Prelude.{Option, option_map}
+use Rattle.std.proofs.Common.{◌≡◌, ◌≢◌, ℕ, ◌≤◌, ◌^◌, Bool, true, false, if◌then◌else◌, List, [], ◌++◌, Result, Ok, Err, length, refl, sym, ap, ◌∙◌, subst, arith, append-nil, true≢false}
+use Rattle.std.specs.Prelude.{IsTrue, IsFalse, Option, option_map}
 use Rattle.bone_desk.specs.Told.{Told, Took, ReadsOnly}
 use Rattle.bone_desk.specs.declared.desk.Act.{Act}
 use Rattle.bone_desk.specs.declared.desk.Act.TheVariants.{Read}
@@ -22,7 +22,7 @@ use Rattle.bone_check.specs.declared.verdict.Verdict.TheVariants.{NotVerified}
 use Rattle.bone_check.specs.declared.evidence.Evidence.{Evidence}
 use Rattle.bone_check.specs.Verdicts.{proof_reading}
 use Rattle.bone_check.specs.ProofFeed.{IsLeft, IsTaken, IsUntaken}
-use Rattle.bone_check.specs.Checks.{Texts, AllCame, limit_of, IsVerdict}
+use Rattle.bone_check.specs.Checks.{Texts, AllCame, is_read, limit_of, IsVerdict}
 use Rattle.bone_check.specs.Steps.Parts.{texts_of}
 use Rattle.bone_check.specs.Steps.Evidence.{IsEvidenceOf, IsWhole, reading_told}
 
@@ -36,14 +36,30 @@ took_on f bytes a b c took same = subst (λ (o : Option (List ℕ)). a.left f �
 took_later : (f : Feed) (bytes : List ℕ) (a b c : Told) → b.left f ≡ a.left f → Took f bytes b c → Took f bytes a c
 took_later f bytes a b c same took = sym same ∙ took
 
-pub all_came : (a b c d : Told) (answer proof witness : List ℕ) → Came feed.Answer a b answer → Came feed.Proof b c proof
-    → Came feed.Witness c d witness → AllCame a d (texts_of answer proof witness)
-all_came a b c d answer proof witness first second third = record {
+-- nothing came of a feed, and its count stands
+pub record IsUntouched (c d : Told) (text : List ℕ) : Type 0 where
+  pub none : text ≡ []
+  pub same : d ≡ c
+
+pub untouched : (t : Told) → IsUntouched t t []
+untouched t = record { none = refl; same = refl }
+
+-- the count of an act that reads none of the feeds stands behind the witness
+witness_counts : (asked : Bool) (c d : Told) (witness : List ℕ) (act : Act) → Came feed.Witness c d witness
+    → (asked ≡ false → IsUntouched c d witness) → ((f : Feed) → IsTrue (is_read asked f) → act ≡ Read f → ⊥)
+    → d.faults act ≡ c.faults act
+witness_counts true c d witness act third unasked apart = third.only.counts.others act (λ is. apart feed.Witness refl is)
+witness_counts false c d witness act third unasked apart = ap (λ (t : Told). t.faults act) (unasked refl).same
+
+pub all_came : (asked : Bool) (a b c d : Told) (answer proof witness : List ℕ) → Came feed.Answer a b answer → Came feed.Proof b c proof
+    → Came feed.Witness c d witness → (asked ≡ false → IsUntouched c d witness) → AllCame asked a d (texts_of answer proof witness)
+all_came asked a b c d answer proof witness first second third unasked = record {
   took = took;
+  unread = unread;
   put = λ p. third.only.put p ∙ second.only.put p ∙ first.only.put p;
   others = λ act no.
-      third.only.counts.others act (λ is. no feed.Witness is) ∙ second.only.counts.others act (λ is. no feed.Proof is)
-      ∙ first.only.counts.others act (λ is. no feed.Answer is);
+      witness_counts asked c d witness act third unasked no ∙ second.only.counts.others act (λ is. no feed.Proof refl is)
+      ∙ first.only.counts.others act (λ is. no feed.Answer refl is);
   never_falls = λ act.
       let one = counts_never_fall first.only.counts act in
       let two = counts_never_fall second.only.counts act in
@@ -51,6 +67,11 @@ all_came a b c d answer proof witness first second third = record {
       omega (arith, one, two, three);
 }
   where
+    unread : (f : Feed) → IsFalse (is_read asked f) → texts_of answer proof witness f ≡ []
+    unread feed.Text isnt = refl
+    unread feed.Answer isnt = absurd (true≢false isnt)
+    unread feed.Proof isnt = absurd (true≢false isnt)
+    unread feed.Witness isnt = (unasked isnt).none
     took : (f : Feed) → Took f (texts_of answer proof witness f) a d
     took feed.Text =
         took_on feed.Text [] a a d (took_none feed.Text a)
@@ -90,10 +111,9 @@ at_end f t came rest ended left =
 pub fails_in_proof : (F : Cnf) (witness : Bool) (judge : Judge) (now : Told) (proof : List ℕ) (reason : Reason) (line : ℕ)
     → ((e : FaultAt Reason) (w : Result Witnessed (FaultAt (Unit {0}))) → judge (Err e) w ≡ NotVerified e.fault e.line)
     → IsUntaken F now proof reason line
-    → IsVerdict witness now (texts_of [] proof []) (judged_on F witness judge) (NotVerified reason line)
+    → IsVerdict now (texts_of [] proof []) (judged_on F witness judge) (NotVerified reason line)
 fails_in_proof F witness judge now proof reason line decides untaken = record {
   within = all_within [] proof [] (omega arith) untaken.within (omega arith);
-  unasked = λ is. refl;
   whole = λ rest left.
       ap (λ (r : Result (List Line) (FaultAt Reason)). judge r (witness_reading F.vars (if witness then [] ++ rest feed.Witness else [])))
       (untaken.reading (rest feed.Proof) (left feed.Proof))
@@ -103,10 +123,9 @@ fails_in_proof F witness judge now proof reason line decides untaken = record {
 -- the proof is taken, and the verdict doesn't hang on the witness
 pub decided_by_proof : (F : Cnf) (witness : Bool) (judge : Judge) (now : Told) (proof : List ℕ) (kept : Kept) (verdict : Verdict)
     → (taken : IsTaken F now proof kept) → ((w : Result Witnessed (FaultAt (Unit {0}))) → judge (Ok taken.lines) w ≡ verdict)
-    → IsVerdict witness now (texts_of [] proof []) (judged_on F witness judge) verdict
+    → IsVerdict now (texts_of [] proof []) (judged_on F witness judge) verdict
 decided_by_proof F witness judge now proof kept verdict taken decides = record {
   within = all_within [] proof [] (omega arith) taken.within (omega arith);
-  unasked = λ is. refl;
   whole = λ rest left.
       ap (λ (r : Result (List Line) (FaultAt Reason)). judge r (witness_reading F.vars (if witness then [] ++ rest feed.Witness else [])))
       (ap (proof_reading F) (at_end feed.Proof now proof (rest feed.Proof) taken.whole (left feed.Proof)) ∙ taken.reading)
@@ -115,29 +134,28 @@ decided_by_proof F witness judge now proof kept verdict taken decides = record {
 
 -- what a witness means that is asked for, or not
 asked : (n : ℕ) (witness : Bool) (now : Told) (came rest : List ℕ) (evidence : Evidence) → IsEvidenceOf n witness now came evidence
-    → IsLeft feed.Witness now rest → witness_reading n (if witness then came ++ rest else []) ≡ reading_told n evidence
-asked n true now came rest evidence is left =
+    → (witness ≡ false → came ≡ []) → IsLeft feed.Witness now rest → witness_reading n (if witness then came ++ rest else []) ≡ reading_told n evidence
+asked n true now came rest evidence is unasked left =
     ap (witness_reading n) (at_end feed.Witness now came rest (is.whole refl).whole left) ∙ is.reading
-asked n false now came rest evidence is left = ap (witness_reading n) (sym (is.unasked refl)) ∙ is.reading
+asked n false now came rest evidence is unasked left = ap (witness_reading n) (sym (unasked refl)) ∙ is.reading
 
 evidence_within : (n : ℕ) (witness : Bool) (now : Told) (came : List ℕ) (evidence : Evidence) → IsEvidenceOf n witness now came evidence
-    → length came ≤ 2 ^ 45
-evidence_within n true now came evidence is = (is.whole refl).within
-evidence_within n false now came evidence is = let none = ap (λ (t : List ℕ). length t) (is.unasked refl) in omega arith
+    → (witness ≡ false → came ≡ []) → length came ≤ 2 ^ 45
+evidence_within n true now came evidence is unasked = (is.whole refl).within
+evidence_within n false now came evidence is unasked = let none = ap (λ (t : List ℕ). length t) (unasked refl) in omega arith
 
 -- both were read
 pub decided_by_both : (F : Cnf) (witness : Bool) (judge : Judge) (mid now : Told) (proof text : List ℕ) (kept : Kept) (evidence : Evidence)
     (verdict : Verdict) → (taken : IsTaken F mid proof kept) → Came feed.Witness mid now text → IsEvidenceOf F.vars witness now text evidence
-    → judge (Ok taken.lines) (reading_told F.vars evidence) ≡ verdict
-    → IsVerdict witness now (texts_of [] proof text) (judged_on F witness judge) verdict
-decided_by_both F witness judge mid now proof text kept evidence verdict taken came is decides = record {
-  within = all_within [] proof text (omega arith) taken.within (evidence_within F.vars witness now text evidence is);
-  unasked = is.unasked;
+    → (witness ≡ false → text ≡ []) → judge (Ok taken.lines) (reading_told F.vars evidence) ≡ verdict
+    → IsVerdict now (texts_of [] proof text) (judged_on F witness judge) verdict
+decided_by_both F witness judge mid now proof text kept evidence verdict taken came is unasked decides = record {
+  within = all_within [] proof text (omega arith) taken.within (evidence_within F.vars witness now text evidence is unasked);
   whole = λ rest left.
       let same : mid.left feed.Proof ≡ now.left feed.Proof = sym (came.only.left feed.Proof (λ e. cc e)) in
       let before : IsLeft feed.Proof mid (rest feed.Proof) = same ∙ left feed.Proof in
       ap (λ (r : Result (List Line) (FaultAt Reason)). judge r (witness_reading F.vars (if witness then text ++ rest feed.Witness else [])))
       (ap (proof_reading F) (at_end feed.Proof mid proof (rest feed.Proof) taken.whole before) ∙ taken.reading)
-      ∙ ap (judge (Ok taken.lines)) (asked F.vars witness now text (rest feed.Witness) evidence is (left feed.Witness))
+      ∙ ap (judge (Ok taken.lines)) (asked F.vars witness now text (rest feed.Witness) evidence is unasked (left feed.Witness))
       ∙ decides;
 }

@@ -13,11 +13,10 @@ use Rattle.model_store.specs.declared.witness.Witness.{Witness}
 use Rattle.witness_text.specs.WitnessText.{store_text}
 use Rattle.run_core.specs.Outcomes.{OutcomeSays}
 use Rattle.run_core.specs.declared.outcome.Outcome.{Outcome}
-use Rattle.bone_words.specs.Settings.{Wanted}
-use Rattle.backbone_main.specs.Words.{IsBuilt, uses}
-use Rattle.backbone_main.specs.Endings.{AllowsEnding}
+use Rattle.backbone_main.specs.Causes.{Acts, WritesNothing}
+use Rattle.backbone_main.specs.Endings.{IsItsOwn}
 use Rattle.backbone_main.specs.Texts.{Texts}
-use Rattle.backbone_main.specs.Outcome.{GaveAll, Stops, StopsWhere, WritesAll, WritesNothing}
+use Rattle.backbone_main.specs.Extracting.{GaveAll, Stops, StopsWhere, WritesAll}
 use Rattle.backbone_main.specs.declared.task.Files.{Files}
 use Rattle.backbone_main.specs.declared.reply.Evidence.{Evidence}
 use Rattle.backbone_main.specs.declared.reply.Drops.{Drops}
@@ -59,12 +58,18 @@ pub record IsWritable (F : Cnf) (evidence : Evidence) : Type 0 where
   pub printable : IfSome evidence.proof (λ lines. All IsPrintable lines)
   pub drops : IfSome evidence.witness (HoldsDrops F)
 
--- the evidence is wanted, and so is a run that ends so
-pub record IsWantedReply (wanted : Option Wanted) (reply : Reply) : Type 0 where
-  pub built : IsBuilt wanted
-  pub proof : IsSome reply.evidence.proof → IsTrue (uses wanted (Write port.Proof))
-  pub drops : IsSome reply.evidence.witness → IsTrue (uses wanted (Write port.Witness))
-  pub allowed : AllowsEnding wanted reply.ending
+-- answer and files are wanted
+pub record AllowsFiles (may : Acts) (files : Files) : Type 0 where
+  pub answer : IsTrue (may (Write port.Answer))
+  pub proof : IsTrue files.proof → IsTrue (may (Write port.Proof))
+  pub witness : IsTrue files.witness → IsTrue (may (Write port.Witness))
+
+-- the answer and the evidence are wanted, and no act failed so far
+pub record IsWantedReply (may : Acts) (reply : Reply) : Type 0 where
+  pub answer : IsTrue (may (Write port.Answer))
+  pub proof : IsSome reply.evidence.proof → IsTrue (may (Write port.Proof))
+  pub drops : IsSome reply.evidence.witness → IsTrue (may (Write port.Witness))
+  pub own : IsItsOwn may reply.ending
 
 -- these are the models and the drops
 pub record IsKeptDrops (s : Store) (ws : List Witness) (d : Drops) : Type 0 where

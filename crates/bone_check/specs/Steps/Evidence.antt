@@ -1,5 +1,5 @@
 -- What came of the feed with the witness, if it is asked for, and what is said of it.
-use Rattle.std.specs.Prelude.{◌≡◌, ℕ, ◌≤◌, ◌<◌, ◌^◌, Bool, true, false, List, [], length, Result, Ok, Err}
+use Rattle.std.specs.Prelude.{◌≡◌, ℕ, ◌≤◌, ◌<◌, ◌^◌, Bool, true, false, List, [], length, IsOk, Result, Ok, Err}
 use Rattle.bone_desk.specs.Told.{Told, AtEnd}
 use Rattle.bone_desk.specs.declared.desk.Feed.TheVariants as feed
 use Rattle.text_lines.specs.Feeds.{Came, IsReadFault, IsTooLong}
@@ -31,10 +31,9 @@ reading_told n Unasked = Ok (none_read n)
 reading_told n (Tells w) = Ok (told_by n w)
 reading_told n (BadLine line) = Err (record { line = line; fault = tt })
 
--- the evidence is what the text means; it is unasked exactly where it isn't asked for
+-- the evidence is what the text means
 pub record IsEvidenceOf (n : ℕ) (witness : Bool) (new : Told) (text : List ℕ) (evidence : Evidence) : Type 0 where
   pub reading : witness_reading n text ≡ reading_told n evidence
-  pub unasked : witness ≡ false → text ≡ []
   pub whole : witness ≡ true → IsWhole new text
 
 abbrev pub EvidenceSays : ℕ → Bool → Told → Told → List ℕ → Result Evidence CheckEnd → Type 0
@@ -43,8 +42,15 @@ EvidenceSays n witness old new text (Err (Fault f)) = (f ≡ feed.Witness) × Is
 EvidenceSays n witness old new text (Err (TooLong f)) = (f ≡ feed.Witness) × IsTooLong witness_limit text
 EvidenceSays n witness old new text (Err Memory) = Unit {0}
 
+-- nothing is done where it isn't asked for
+pub record IsUnasked (old new : Told) (text : List ℕ) (result : Result Evidence CheckEnd) : Type 0 where
+  pub none : text ≡ []
+  pub same : new ≡ old
+  pub fine : IsOk result
+
 pub record ReadsEvidence (n : ℕ) (witness : Bool) (old new : Told) (result : Result Evidence CheckEnd) : Type 0 where
   pub text : List ℕ
+  pub unasked : witness ≡ false → IsUnasked old new text result
   pub came : Came feed.Witness old new text
   pub answer : EvidenceSays n witness old new text result
 

@@ -31,6 +31,6 @@ texts_of answer proof witness feed.Witness = witness
 pub record ChecksRest (witness : Bool) (old new : Told) (means : Texts → Verdict) (result : Result Verdict CheckEnd) : Type 0 where
   pub proof : List ℕ
   pub evidence : List ℕ
-  pub all : AllCame old new (texts_of [] proof evidence)
+  pub all : AllCame witness old new (texts_of [] proof evidence)
   pub says : Says witness old new (texts_of [] proof evidence) means result
   pub answer_left : new.left feed.Answer ≡ old.left feed.Answer

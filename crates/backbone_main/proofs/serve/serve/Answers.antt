@@ -2,7 +2,7 @@
 use Rattle.std.proofs.Common.{map}
 use Rattle.std.specs.String.{string_bytes}
 use Rattle.bone_words.specs.Settings.{settings_of}
-use Rattle.backbone_main.specs.Endings.{workers_of}
+use Rattle.backbone_main.specs.Words.{workers_of}
 use Rattle.backbone_main.proofs.serve.serve.Goals as goal
 
 pub returns : goal.returns

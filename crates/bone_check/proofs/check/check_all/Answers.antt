@@ -85,7 +85,7 @@ returns-in-Err-Fault g c =
     let mid = g.D.Desk.told c.read_answer.new.desk in
     let reads = subst (λ (n : ℕ). ReadsAnswer n old mid c.read_answer.result) c.vars.ensures.value c.read_answer.ensures in
     let ends = subst (λ (r : Result Answer AnswerEnd). Ends F.vars old mid reads.text r) (c.in-Err-Fault.is ∙ ap (λ (e : AnswerEnd). Err e) c.in-Err-Fault.field-0-is) reads.ends in
-    answer_ends F c.args.witness old mid reads.text (Fault feed.Answer) reads.came ends.rose
+    answer_ends F c.args.witness old mid reads.text (Fault feed.Answer) reads.came (refl, ends.rose)
 
 pub returns-in-Err-TooLong : goal.returns-in-Err-TooLong
 returns-in-Err-TooLong g c =
