@@ -32,8 +32,8 @@ use Rattle.backbone_main.proofs.Onward.{SamePuts, front_after, gave_after, read_
 
 -- ---- without a formula
 
-pub check_unopened : (w : ℕ) (c : Checking) (ending : Ending) (a b : Told) → IsUnopened (check_uses c) ending a b → Opens (check_uses c) a b
-    → Runs w (Some (to_check c)) ending a b
+pub check_unopened : {last : ℕ} (w : ℕ) (c : Checking) (ending : Ending) (a b : Told) → IsUnopened (check_uses c) ending a b
+    → Opens (check_uses c) last a b → Runs w (Some (to_check c)) ending a b
 check_unopened w c (Failed (OpenFeed f)) a b is opens = record {
   account = is.1;
   own = record { used = is.0; no_note = λ e. absurd (cc) };
@@ -42,7 +42,7 @@ check_unopened w c (Failed (OpenFeed f)) a b is opens = record {
 check_unopened w c (Failed (OpenPort p)) a b is opens = absurd (true≢false (sym is.0))
 check_unopened w c ending a b is opens = absurd is
 
-touches_reading : (c : Checking) (a b d : Told) → Opens (check_uses c) a b → ReadsOnly feed.Text b d → Touches (check_uses c) a d
+touches_reading : {last : ℕ} (c : Checking) (a b d : Told) → Opens (check_uses c) last a b → ReadsOnly feed.Text b d → Touches (check_uses c) a d
 touches_reading c a b d opens only =
     touches_of_text (check_uses c) a d (touches_text_by_read (check_uses c) feed.Text a b d refl opens only)
 
@@ -55,7 +55,7 @@ unread_runs w c (BadText fault) a d is touches = record { account = is; own = tt
 unread_runs w c OutOfMemory a d is touches = record { account = is; own = tt; touches = touches }
 unread_runs w c ending a d is touches = absurd is
 
-pub check_unread : (w : ℕ) (c : Checking) (ending : Ending) (a b d : Told) → Opens (check_uses c) a b → ReadsOnly feed.Text b d
+pub check_unread : {last : ℕ} (w : ℕ) (c : Checking) (ending : Ending) (a b d : Told) → Opens (check_uses c) last a b → ReadsOnly feed.Text b d
     → IsUnread ending b d → Runs w (Some (to_check c)) ending a d
 check_unread w c ending a b d opens only is =
     unread_runs w c ending a d (unread_later (check_uses c) ending a b d opens is) (touches_reading c a b d opens only)
@@ -108,7 +108,7 @@ pub record IsReadThrough (c : Checking) (F : Cnf) (a m d : Told) (came : feeds.T
   pub reads : (f : Feed) → f ≢ feed.Text → m.faults (Read f) ≡ a.faults (Read f)
   pub touches : Touches (check_uses c) a d
 
-read_through : (c : Checking) (F : Cnf) (a b m d : Told) (came : feeds.Texts) → Opens (check_uses c) a b → ReadsOnly feed.Text b m
+read_through : {last : ℕ} (c : Checking) (F : Cnf) (a b m d : Told) (came : feeds.Texts) → Opens (check_uses c) last a b → ReadsOnly feed.Text b m
     → ReadsText (Ok F) b m → AllCame (names_witness c) m d came → IsReadThrough c F a m d came
 read_through c F a b m d came opens only read all = record {
   read = read_onward a m d (reads_later (check_uses c) a b m opens read)
@@ -267,8 +267,8 @@ concludes w c F (Err end) ending a m d e came law vars through all says is =
     let P : Ending → Told → Type 0 = λ x t. Runs w (Some (to_check c)) x a t in
     subst (λ (t : Told). P ending t) (sym is.1) (subst (λ (x : Ending). P x d) (sym is.0) (ends w c F end a m d came through all says))
 
-pub check_judged : (w : ℕ) (c : Checking) (F : Cnf) (ending : Ending) (a b m e : Told) → VerifiedIsRight → F.vars ≤ 2 ^ 20
-    → Opens (check_uses c) a b → ReadsOnly feed.Text b m → ReadsText (Ok F) b m → IsJudged F (names_witness c) ending m e
+pub check_judged : {last : ℕ} (w : ℕ) (c : Checking) (F : Cnf) (ending : Ending) (a b m e : Told) → VerifiedIsRight → F.vars ≤ 2 ^ 20
+    → Opens (check_uses c) last a b → ReadsOnly feed.Text b m → ReadsText (Ok F) b m → IsJudged F (names_witness c) ending m e
     → Runs w (Some (to_check c)) ending a e
 check_judged w c F ending a b m e law vars opens only read is =
     concludes w c F is.result ending a m is.middle e is.checks.came law vars
