@@ -5,28 +5,24 @@ use Rattle.bone_desk.specs.declared.desk.Feed.{Feed}
 use Rattle.bone_desk.specs.declared.desk.Feed.TheVariants as feed
 use Rattle.bone_desk.specs.declared.desk.Port.{Port}
 use Rattle.bone_desk.specs.declared.desk.Port.TheVariants as port
-use Rattle.bone_desk.specs.declared.desk.Act.{Act}
 use Rattle.bone_desk.specs.declared.desk.Act.TheVariants.{OpenFeed, OpenPort, Read, Write}
-use Rattle.bone_desk.specs.Told.{Told, Rose, ReadsOnly, WritesOnly, Took, Gave}
+use Rattle.bone_desk.specs.Told.{Told, Rose, ReadsOnly, Took}
 use Rattle.cnf_core.specs.Formulas.{Cnf}
-use Rattle.answer_text.specs.AnswerText.{answer_text}
 use Rattle.bone_words.specs.Settings.{Checking, to_check}
 use Rattle.bone_check.specs.declared.verdict.Verdict.{Verdict}
-use Rattle.bone_check.specs.declared.verdict.Verdict.TheVariants.{Verified}
 use Rattle.bone_check.specs.declared.verdict.CheckEnd.{CheckEnd}
 use Rattle.bone_check.specs.declared.verdict.CheckEnd.TheVariants as check
 use Rattle.bone_check.specs.Checks as feeds
-use Rattle.bone_check.specs.Checks.{AllCame, AllLeft, ChecksAll, IsVerdict, Says, is_read, limit_of, verdict_on}
+use Rattle.bone_check.specs.Checks.{AllCame, AllLeft, IsVerdict, Says, is_read, limit_of, verdict_on}
 use Rattle.bone_check.specs.Laws.{VerifiedIsRight}
 use Rattle.backbone_main.specs.declared.ending.Ending.{Ending}
-use Rattle.backbone_main.specs.declared.ending.Ending.TheVariants.{Judged, OutOfMemory, BadText, TooLong, Failed}
-use Rattle.backbone_main.specs.Causes.{ChangesItsOwn, ReadsAndWrites, ReadsText, WritesNothing}
+use Rattle.backbone_main.specs.declared.ending.Ending.TheVariants.{OutOfMemory, BadText, TooLong, Failed}
+use Rattle.backbone_main.specs.Causes.{ReadsAndWrites, ReadsText, WritesNothing}
 use Rattle.backbone_main.specs.Verdicts.{verdict_text}
-use Rattle.backbone_main.specs.Endings.{IsItsOwn}
-use Rattle.backbone_main.specs.Checking.{AllTook, CheckAccounts, FailsToReadFeed, FindsFeedTooLong, Judges, StopsTelling, Tells, check_uses, names_witness}
+use Rattle.backbone_main.specs.Checking.{AllTook, FailsToReadFeed, FindsFeedTooLong, Judges, check_uses, names_witness}
 use Rattle.backbone_main.specs.Steps.Finish.{IsUnopened, IsUnread, Opens, Runs, Touches}
-use Rattle.backbone_main.specs.Steps.Judging.{IsConcluded, IsJudged, IsTold, IsWritten, end_of}
-use Rattle.backbone_main.proofs.Own.{touches_by_write, touches_more, touches_none, touches_of_text, touches_text_by_read, touches_text_of_opens}
+use Rattle.backbone_main.specs.Steps.Judging.{IsConcluded, IsJudged, IsTold, end_of}
+use Rattle.backbone_main.proofs.Own.{touches_by_write, touches_more, touches_of_text, touches_text_by_read, touches_text_of_opens}
 use Rattle.backbone_main.proofs.Refused.{reads_later, unread_later}
 use Rattle.backbone_main.proofs.Onward.{SamePuts, front_after, gave_after, read_onward}
 
@@ -145,40 +141,40 @@ tells w c F verdict ending a m d e came law vars through is told =
     let read = read_onward a d e through.read (told.only.left feed.Text) in
     let judged = judges c F verdict a m d e came law vars through told.only.left is in
     let touches = touches_more (check_uses c) a d e through.touches
-        (touches_by_write (check_uses c) port.Answer d e refl (λ is. absurd (cc)) told.only) in
+    (touches_by_write (check_uses c) port.Answer d e refl (λ is. absurd (cc)) told.only) in
     elim told.written [
       | inl whole ↦ (
-        let P : Ending → Type 0 = λ end. Runs w (Some (to_check c)) end a e in
-        subst P (sym whole.0) (record {
-          account = record {
-            formula = F;
-            read = read;
-            wrote = record {
-              judges = judged;
-              gave = gave_after port.Answer (verdict_text verdict) a d e through.put whole.1;
+          let P : Ending → Type 0 = λ end. Runs w (Some (to_check c)) end a e in
+          subst P (sym whole.0) (record {
+            account = record {
+              formula = F;
+              read = read;
+              wrote = record {
+                judges = judged;
+                gave = gave_after port.Answer (verdict_text verdict) a d e through.put whole.1;
+              };
             };
-          };
-          own = tt;
-          touches = touches;
-        })
-      )
+            own = tt;
+            touches = touches;
+          })
+          )
       | inr front ↦ (
-        let P : Ending → Type 0 = λ end. Runs w (Some (to_check c)) end a e in
-        subst P (sym front.0) (record {
-          account = record {
-            formula = F;
-            read = read;
-            wrote = record {
-              verdict = verdict;
-              judges = judged;
-              front = front_after port.Answer (verdict_text verdict) a d e through.put front.1;
-              rose = subst (λ (k : ℕ). k < 2 ^ 64 - 1 → k < e.faults (Write port.Answer)) (through.writes port.Answer) front.2;
+          let P : Ending → Type 0 = λ end. Runs w (Some (to_check c)) end a e in
+          subst P (sym front.0) (record {
+            account = record {
+              formula = F;
+              read = read;
+              wrote = record {
+                verdict = verdict;
+                judges = judged;
+                front = front_after port.Answer (verdict_text verdict) a d e through.put front.1;
+                rose = subst (λ (k : ℕ). k < 2 ^ 64 - 1 → k < e.faults (Write port.Answer)) (through.writes port.Answer) front.2;
+              };
             };
-          };
-          own = record { used = refl; no_note = λ is. absurd (cc) };
-          touches = touches;
-        })
-      )
+            own = record { used = refl; no_note = λ is. absurd (cc) };
+            touches = touches;
+          })
+          )
     ]
 
 -- ---- no verdict

@@ -1,12 +1,12 @@
 -- What was done before the note is done after it, and what is done after the text was read is done since before it.
-use Rattle.std.proofs.Common.{◌≡◌, ◌≢◌, ℕ, ◌<◌, ◌-◌, ◌^◌, ◌++◌, List, [], true, refl, sym, ap, ◌∙◌, subst, inl, inr, arith}
+use Rattle.std.proofs.Common.{◌≡◌, ◌≢◌, ℕ, ◌<◌, ◌-◌, ◌^◌, ◌++◌, List, [], true, sym, ap, ◌∙◌, subst, inl, inr, arith}
 use Rattle.std.specs.Prelude.{Option, option_map, IfSome, Result}
 use Rattle.bone_desk.specs.declared.desk.Feed.{Feed}
 use Rattle.bone_desk.specs.declared.desk.Feed.TheVariants as feed
 use Rattle.bone_desk.specs.declared.desk.Port.{Port}
 use Rattle.bone_desk.specs.declared.desk.Port.TheVariants as port
 use Rattle.bone_desk.specs.declared.desk.Act.{Act}
-use Rattle.bone_desk.specs.declared.desk.Act.TheVariants.{OpenFeed, OpenPort, Read, Write}
+use Rattle.bone_desk.specs.declared.desk.Act.TheVariants.{Read, Write}
 use Rattle.bone_desk.specs.Told.{Told, Rose, WritesOnly, Took, Gave}
 use Rattle.bone_desk.specs.Gives.{GaveFront}
 use Rattle.cnf_core.specs.Formulas.{Cnf}

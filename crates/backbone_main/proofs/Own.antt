@@ -1,5 +1,5 @@
 -- What a call changes of its own, step by step.
-use Rattle.std.proofs.Common.{◌≡◌, ◌≢◌, ◌≤◌, ◌<◌, ◌-◌, ◌^◌, ℕ, Bool, true, false, refl, sym, ap, ◌∙◌, subst, arith, true≢false}
+use Rattle.std.proofs.Common.{◌≡◌, ◌≢◌, ◌≤◌, ◌<◌, ◌-◌, ℕ, true, false, refl, sym, ap, ◌∙◌, subst, arith, true≢false}
 use Rattle.std.specs.Prelude.{Option, Some, None, IsTrue, IsFalse, IsSome, IsNone}
 use Rattle.bone_desk.specs.declared.desk.Feed.{Feed}
 use Rattle.bone_desk.specs.declared.desk.Feed.TheVariants as feed
@@ -131,9 +131,6 @@ touches_text_by_read may f a b c used opens only = record {
   put = λ p. only.put p ∙ opens.same.put p;
   writes = λ p. only.counts.others (Write p) (λ e. absurd (cc)) ∙ opens.writes p;
 }
-
-pub touches_text_none : (may : Acts) (t : Told) → TouchesText may t t
-touches_text_none may t = record { own = own_none may t; put = λ p. refl; writes = λ p. refl }
 
 -- nothing of the notes is touched
 pub touches_none : (may : Acts) (t : Told) → Touches may t t

@@ -1,19 +1,18 @@
 -- A run that ends before its formula is there: an opening failed, or the reading of the text.
-use Rattle.std.proofs.Common.{◌≡◌, ◌≢◌, ◌<◌, ◌≤◌, ◌-◌, ◌^◌, ◌++◌, ℕ, List, [], length, true, false, refl, true≢false, sym, ap, ◌∙◌, subst, arith, inl}
+use Rattle.std.proofs.Common.{◌≡◌, ◌≢◌, ◌<◌, ◌≤◌, ◌-◌, ◌^◌, ℕ, List, true, false, refl, true≢false, sym, ap, ◌∙◌, subst, arith, inl}
 use Rattle.std.specs.Prelude.{Option, Some, None, Result, Ok, Err, OnOk, OnErr, IfErr, IsTrue, is_err, is_some, option_map}
 use Rattle.bone_desk.specs.declared.desk.Feed.{Feed}
 use Rattle.bone_desk.specs.declared.desk.Feed.TheVariants as feed
 use Rattle.bone_desk.specs.declared.desk.Port.{Port}
 use Rattle.bone_desk.specs.declared.desk.Act.{Act}
 use Rattle.bone_desk.specs.declared.desk.Act.TheVariants.{OpenFeed, OpenPort, Read}
-use Rattle.bone_desk.specs.Told.{Told, CountsOnly, ReadsOnly, Rose, SameBytes, Took}
+use Rattle.bone_desk.specs.Told.{Told, CountsOnly, ReadsOnly, Rose, SameBytes}
 use Rattle.cnf_core.specs.Formulas.{Cnf}
 use Rattle.dimacs_reader.specs.declared.fault.Fault.{Fault}
 use Rattle.dimacs_reader.specs.Feeds.{Came, IsReadFault, IsReadAs, IsTooLong}
 use Rattle.backbone_main.specs.declared.ending.Ending.{Ending}
 use Rattle.backbone_main.specs.declared.ending.Ending.TheVariants.{BadText, Failed, OutOfMemory, TooLong}
 use Rattle.backbone_main.specs.Causes.{Acts, turn_of, EndsAt, FailsToOpen, FailsToRead, FindsTooLong, ReadsText, RefusesText}
-use Rattle.backbone_main.specs.Endings.{IsItsOwn}
 use Rattle.backbone_main.specs.Steps.Finish.{IsFailedOpening, IsRefused, IsUnopened, IsUnread, Opens}
 use Rattle.backbone_main.proofs.Own.{later_act, rose_after}
 

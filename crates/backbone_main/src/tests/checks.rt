@@ -117,10 +117,7 @@ fn the_first_fault_of_an_answer_is_told_with_its_line(rt: HostRuntime) -> Result
             b"s SATISFIABLE\nb 2\nb 1\nb 0\n",
             b"not verified: NotSorted at 3\n",
         ),
-        (
-            b"s PARTIAL\nu 1\nb 0\n",
-            b"not verified: Unfinished at 1\n",
-        ),
+        (b"s PARTIAL\nu 1\nb 0\n", b"not verified: Unfinished at 1\n"),
         (
             b"s SATISFIABLE\nb 1\nb 2\nb 0\n",
             b"not verified: NoUnit at 3\n",
@@ -304,15 +301,7 @@ fn what_an_extraction_wrote_is_verified(rt: HostRuntime) -> Result<(), Fail> {
             is_certified(&rt, alloc, text, &both, status, &ALL, how)?;
         }
         let proof = ["extract", "--proof=p", "f"];
-        is_certified(
-            &rt,
-            alloc,
-            b"p cnf 1 1\n0\n",
-            &proof,
-            20,
-            &NO_WITNESS,
-            how,
-        )?;
+        is_certified(&rt, alloc, b"p cnf 1 1\n0\n", &proof, 20, &NO_WITNESS, how)?;
     }
     Ok(())
 }

@@ -1,5 +1,5 @@
 -- The text is opened, then what is named.
-use Rattle.std.proofs.Common.{refl, sym, ◌∙◌, arith}
+use Rattle.std.proofs.Common.{refl, ◌∙◌, arith}
 use Rattle.std.proofs.lemmas.Result.{on_err_weaker}
 use Rattle.std.specs.String.{string_bytes}
 use Rattle.bone_desk.specs.declared.desk.Feed.TheVariants as feed
