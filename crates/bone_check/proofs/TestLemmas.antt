@@ -1,6 +1,6 @@
 -- Verdicts of tests in a row, and of one test on each element of a list.
 use Rattle.std.proofs.Common.{◌≡◌, ℕ, suc, zero, ◌+◌, ◌<◌, ◌≤◌, List, [], ◌∷◌, ◌++◌, Option, Some, None, length, take, drop, get_or, Contains, take-append-drop, refl, sym, ap, ◌∙◌, subst, ⊎_elim, arith}
-use Rattle.std.proofs.lemmas.List.{take_more, drop_more, length_push, take_all}
+use Rattle.std.proofs.lemmas.List.{take_more, drop_more, take_all}
 use Rattle.std.proofs.Common.{length-take}
 use Rattle.std.specs.Prelude.{slice_get}
 use Rattle.std.proofs.lemmas.Option.{slice_get-get_or, get_or_from_slice_get}

@@ -1,10 +1,9 @@
 -- What came of the feed with the witness, if it is asked for, and what is said of it.
-use Rattle.std.specs.Prelude.{◌≡◌, ℕ, ◌≤◌, ◌<◌, ◌^◌, Bool, true, false, List, [], length, Result, Ok, Err}
+use Rattle.std.specs.Prelude.{◌≡◌, ℕ, ◌≤◌, ◌^◌, Bool, true, false, List, [], length, Result, Ok, Err}
 use Rattle.bone_desk.specs.Told.{Told, AtEnd}
 use Rattle.bone_desk.specs.declared.desk.Feed.TheVariants as feed
 use Rattle.text_lines.specs.Feeds.{Came, IsReadFault, IsTooLong}
 use Rattle.text_lines.specs.Readings.{FaultAt}
-use Rattle.witness_text.specs.declared.read.WitnessText.{WitnessText}
 use Rattle.witness_text.specs.Reading.{Witnessed, none_read}
 use Rattle.witness_text.specs.Texts.{witness_reading, told_by}
 use Rattle.witness_text.specs.Told.{IsWitness}
