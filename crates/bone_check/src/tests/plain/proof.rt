@@ -39,7 +39,8 @@ impl PlainProof {
             reached: Vec::new(alloc),
         };
         for clause in clauses {
-            proof.know(proof.top.saturating_add(1), clause)?;
+            let id = proof.top.saturating_add(1);
+            proof.know(id, clause)?;
         }
         Ok(proof)
     }
@@ -162,11 +163,9 @@ fn list<'t, 'b>(
     place: u64,
 ) -> Result<(Vec<i64>, &'t [&'b [u8]]), Stop> {
     let mut elements = Vec::new(alloc);
-    let mut rest = tokens;
-    while let [token, behind @ ..] = rest {
-        rest = behind;
+    for (read, token) in tokens.iter().enumerate() {
         match element(kind, token, place)? {
-            0 => return Ok((elements, rest)),
+            0 => return Ok((elements, &tokens[read + 1..])),
             number => elements.push(number)?,
         }
     }
