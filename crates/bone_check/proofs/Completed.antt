@@ -80,6 +80,10 @@ drop_passes F s w is =
 
 -- ---- the shown variables
 
+or_true : (b : Bool) → (b || true) ≡ true
+or_true true = refl
+or_true false = refl
+
 named_literal : (lits : Literals) (v : ℕ) → Contains (map (λ (l : Literal). l.var) lits) v → list_any (λ (l : Literal). l.var == v) lits ≡ true
 named_literal [] v none = absurd (Contains-nil v none)
 named_literal (l ∷ lits) v some = ⊎_elim
@@ -87,10 +91,6 @@ named_literal (l ∷ lits) v some = ⊎_elim
     (λ (later : Contains (map (λ (k : Literal). k.var) lits) v).
     ap (λ (b : Bool). (l.var == v) || b) (named_literal lits v later) ∙ or_true (l.var == v))
     (Contains-cons_cases l.var (map (λ (k : Literal). k.var) lits) v some)
-  where
-    or_true : (b : Bool) → (b || true) ≡ true
-    or_true true = refl
-    or_true false = refl
 
 named_drop : (a : Assignment) (drops : List Witness) (v : ℕ) → Contains (map (λ (w : Witness). w.var) drops) v
     → list_any (λ (d : WitnessLine). d.lit.var == v) (map (named_by a) drops) ≡ true
@@ -101,10 +101,6 @@ named_drop a (w ∷ drops) v some = ⊎_elim
     (λ (later : Contains (map (λ (u : Witness). u.var) drops) v).
     ap (λ (b : Bool). (w.var == v) || b) (named_drop a drops v later) ∙ or_true (w.var == v))
     (Contains-cons_cases w.var (map (λ (u : Witness). u.var) drops) v some)
-  where
-    or_true : (b : Bool) → (b || true) ≡ true
-    or_true true = refl
-    or_true false = refl
 
 either_covers : (fixed : Literals) (s : Store) (drops : List Witness) (v : ℕ)
     → Contains (map (λ (w : Witness). w.var) drops) v ⊎ Contains (map (λ (l : Literal). l.var) fixed) v
@@ -116,10 +112,6 @@ either_covers fixed s drops v named = ⊎_elim
     (λ (printed : Contains (map (λ (l : Literal). l.var) fixed) v).
     ap (λ (b : Bool). b || list_any (λ (d : WitnessLine). d.lit.var == v) (named_drops s drops)) (named_literal fixed v printed))
     named
-  where
-    or_true : (b : Bool) → (b || true) ≡ true
-    or_true true = refl
-    or_true false = refl
 
 cover_passes : (F : Cnf) (fixed : Literals) (drops : List WitnessLine) (v : ℕ)
     → (IsTrue (is_shown F v) → is_covered fixed drops v ≡ true) → cover_fault F fixed drops v ≡ None

@@ -181,6 +181,10 @@ fn only_shown_variables_are_printed_and_covered(rt: HostRuntime) -> Result<(), F
     let mut desk = desk_with(alloc, b"s SATISFIABLE\nb 0\n", b"", b"m11\n")?;
     let told = check_all(alloc, &formula, &mut desk, true);
     assert_eq!(rt; told, Ok(Verdict::Verified));
+    formula.show(1);
+    let mut desk = desk_with(alloc, b"s SATISFIABLE\nb 1\nb 2\nb 0\n", PROOF, WITNESS)?;
+    let told = check_all(alloc, &formula, &mut desk, true);
+    assert_eq!(rt; told, fails(Reason::NotShown, 3));
     Ok(())
 }
 
