@@ -6,7 +6,7 @@ use Rattle.std.proofs.lemmas.List.Elements.{All-contains, All-weaker, All-map, C
 use Rattle.cnf_core.specs.Literals.{Literal, Literals, Assignment, value_of, is_true, all_true, AreWithin}
 use Rattle.cnf_core.specs.Formulas.{Cnf, IsModel, is_shown, shown_backbone, true_literal}
 use Rattle.cnf_core.specs.Laws.{IsShownBackboneOf}
-use Rattle.cnf_core.proofs.Lists.{Contains-head, Contains-tail, Contains-nil, Contains-cons_cases}
+use Rattle.cnf_core.proofs.Lists.{Contains-nil, Contains-cons_cases}
 use Rattle.cnf_core.proofs.Models.{no_model}
 use Rattle.cnf_core.proofs.Shown.{shown_within, is_shown_backbone}
 use Rattle.lrat_lines.specs.declared.line.Line.{Line}
@@ -36,18 +36,11 @@ use Rattle.bone_check.specs.Witnessing.{is_against, is_covered, variables, model
 use Rattle.bone_check.specs.Verdicts.{proof_reading, no_lines, unsat_verdict, evidence_verdict, sat_verdict, answer_verdict}
 use Rattle.bone_check.specs.Complete.{HasOpposite, IsCompleteWitness}
 use Rattle.bone_check.specs.Laws.{CompleteIsVerified, RefutationIsVerified}
+use Rattle.bone_check.proofs.TestLemmas.{each_verified}
 use Rattle.bone_check.proofs.Reaching.{has_unit_is, has_empty_is, no_models}
 use Rattle.bone_check.proofs.Witnessed.{some_model_first}
 use Rattle.bone_check.proofs.Answered.{judged_answer}
 use Rattle.bone_check.proofs.PrintedLines.{proof_read}
-
--- where a test passes on each element, all pass in turn
-each_verified : {X : Type 0} (test : X → Option Reason) (place : ℕ) (xs : List X) → ((x : X) → Contains xs x → test x ≡ None)
-    → each_from test place xs ≡ Verified
-each_verified test place [] pass = refl
-each_verified test place (x ∷ xs) pass =
-    ap (λ (fault : Option Reason). at_place place fault then each_from test (place + 1) xs) (pass x (Contains-head x xs))
-    ∙ each_verified test (place + 1) xs (λ y there. pass y (Contains-tail x xs y there))
 
 -- ---- the printed literals
 

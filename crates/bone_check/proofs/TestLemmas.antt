@@ -30,6 +30,14 @@ each_passed test place (y ∷ xs) x passed there =
     (λ (later : Contains xs x). each_passed test (place + 1) xs x parts.1 later)
     (Contains-cons_cases y xs x there)
 
+-- and where it passes on each, it passes on each in turn
+pub each_verified : {X : Type 0} (test : X → Option Reason) (place : ℕ) (xs : List X) → ((x : X) → Contains xs x → test x ≡ None)
+    → each_from test place xs ≡ Verified
+each_verified test place [] pass = refl
+each_verified test place (x ∷ xs) pass =
+    ap (λ (fault : Option Reason). at_place place fault then each_from test (place + 1) xs) (pass x (Contains-head x xs))
+    ∙ each_verified test (place + 1) xs (λ y there. pass y (Contains-tail x xs y there))
+
 then_assoc : (a b c : Verdict) → ((a then b) then c) ≡ (a then (b then c))
 then_assoc Verified b c = refl
 then_assoc (NotVerified reason place) b c = refl
