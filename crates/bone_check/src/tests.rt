@@ -139,16 +139,22 @@ fn each_reason_of_a_witness_comes_at_its_first_and_at_its_last_place(
         let verdict = judged(alloc, NUMBERS, (ANSWER, PROOF, witness), true)?;
         assert_eq!(rt; verdict, fails(reason, place), "{witness:?}");
     }
-    let free = (b"s SATISFIABLE\nb 0\n".as_slice(), b"".as_slice());
+    let unasked = judged(alloc, NUMBERS, (ANSWER, PROOF, WITNESS), false)?;
+    assert_eq!(rt; unasked, fails(Reason::NoModel, 1));
+    Ok(())
+}
+
+#[test]
+fn the_last_drop_line_and_the_first_variable_are_told(rt: HostRuntime) -> Result<(), Fail> {
+    let alloc = rt.alloc();
+    let answer = b"s SATISFIABLE\nb 0\n".as_slice();
     for (witness, reason, place) in [
         (b"m11\nd 1 0 1\nd 2 0 0\n".as_slice(), Reason::NotAgainst, 3),
         (b"m11\nd 2 0 1\n", Reason::NotCovered, 1),
     ] {
-        let verdict = judged(alloc, &[], (free.0, free.1, witness), true)?;
+        let verdict = judged(alloc, &[], (answer, b"", witness), true)?;
         assert_eq!(rt; verdict, fails(reason, place), "{witness:?}");
     }
-    let unasked = judged(alloc, NUMBERS, (ANSWER, PROOF, WITNESS), false)?;
-    assert_eq!(rt; unasked, fails(Reason::NoModel, 1));
     Ok(())
 }
 
