@@ -5,4 +5,4 @@ mod Endings
 mod Spelled
 pub mod SoFar
 mod ReadBack
-mod RoundTrip
+pub mod RoundTrip

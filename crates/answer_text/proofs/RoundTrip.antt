@@ -16,7 +16,7 @@ use Rattle.answer_text.specs.declared.stage.Stage.TheVariants as stage
 use Rattle.answer_text.specs.declared.stage.LineFault.{LineFault}
 use Rattle.answer_text.specs.declared.stage.LineFault.TheVariants.{Bad, NotSorted}
 use Rattle.answer_text.specs.declared.answer.Answer.TheVariants.{Unsat, Sat, Partial, Unknown}
-use Rattle.answer_text.specs.AnswerText.{literal_line, literal_lines, groups_text, text_of, SharesNoVar}
+use Rattle.answer_text.specs.AnswerText.{literal_line, literal_lines, groups_text, sat_text, text_of, SharesNoVar}
 use Rattle.answer_text.specs.Reading.{Read, nothing_read, literal_of, has_var, fixed_line, still_line, either_line, line_read, end_at, end_read, reading_of}
 use Rattle.answer_text.specs.Laws.{TextsReadBack}
 use Rattle.answer_text.proofs.ReadBack.{IsWholeLine, lines_back, read_back}
@@ -258,21 +258,29 @@ partial_front vars fixed rest small rises within =
     ∙ rows_fixed vars stage.Fixed [] small (λ f last l is lt. fixed_row vars f [] last l small is lt) 2 [] 0 fixed rest
     (from_start vars fixed rises within) within
 
+-- the text that prints some literals reads back as that of these
+pub sat_reads_back : (vars : ℕ) (fixed : Literals) → vars ≤ 2 ^ 20 → RisesByVar fixed → AreWithin vars fixed
+    → (r : Read) × (reading_of vars (sat_text fixed) ≡ Ok r) × ((r.stage ≡ stage.Sat) × (r.fixed ≡ fixed))
+sat_reads_back vars fixed small order within =
+    let read = at vars stage.Sat fixed [] (end_last 0 fixed) in (
+      read,
+      reads_so vars (sat_text fixed) (groups (codes "s SATISFIABLE") fixed []) read
+          (ap lines_of (sym (groups_join (codes "s SATISFIABLE") fixed []))
+          ∙ lines_back (groups (codes "s SATISFIABLE") fixed [])
+          (groups_whole vars (codes "s SATISFIABLE") fixed [] small refl within (All-nil (IsWithin vars))))
+          (sat_steps vars fixed small order within) refl,
+      (refl, refl),
+    )
+
 pub texts_read_back : TextsReadBack
 texts_read_back vars Unsat small order within = record {
   read = at vars stage.Unsat [] [] 0;
   reading = one_line vars (codes "s UNSATISFIABLE") (at vars stage.Unsat [] [] 0) refl refl refl;
   says = refl;
 }
-texts_read_back vars (Sat fixed) small order within = record {
-  read = at vars stage.Sat fixed.items [] (end_last 0 fixed.items);
-  reading = reads_so vars (text_of (Sat fixed)) (groups (codes "s SATISFIABLE") fixed.items []) (at vars stage.Sat fixed.items [] (end_last 0 fixed.items))
-      (ap lines_of (sym (groups_join (codes "s SATISFIABLE") fixed.items []))
-      ∙ lines_back (groups (codes "s SATISFIABLE") fixed.items [])
-      (groups_whole vars (codes "s SATISFIABLE") fixed.items [] small refl within (All-nil (IsWithin vars))))
-      (sat_steps vars fixed.items small order within) refl;
-  says = (refl, refl);
-}
+texts_read_back vars (Sat fixed) small order within =
+    let back = sat_reads_back vars fixed.items small order within in
+    record { read = back.0; reading = back.1; says = back.2 }
 texts_read_back vars (Partial fixed still) small order within =
     let f = fixed.items in
     let s = still.items in

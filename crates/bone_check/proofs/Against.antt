@@ -1,5 +1,5 @@
 -- One drop line, as it is tested.
-use Rattle.std.proofs.Common.{◌≡◌, ℕ, Bool, true, false, not, ◌&&◌, if◌then◌else◌, IsTrue, List, Option, Some, None, length, refl, sym, ap, ◌∙◌, ◌<◌, ◌≤◌, arith, length-set}
+use Rattle.std.proofs.Common.{◌≡◌, Bool, true, false, not, ◌&&◌, if◌then◌else◌, IsTrue, List, Some, None, refl, sym, ap, ◌∙◌, arith, length-set}
 use Rattle.std.proofs.lemmas.Bool.{false_from_ne_true}
 use Rattle.cnf_core.specs.Literals.{Literal, Assignment, value_of, is_true, all_true, IsWithin}
 use Rattle.cnf_core.specs.Formulas.{Cnf, IsModel}

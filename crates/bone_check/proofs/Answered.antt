@@ -2,19 +2,20 @@
 use Rattle.std.proofs.Common.{◌≡◌, ◌≢◌, ℕ, ◌<◌, ◌≤◌, ◌-◌, ◌^◌, Bool, true, false, if◌then◌else◌, List, [], ◌++◌, Result, Ok, Err, length, refl, sym, ap, ◌∙◌, subst, inl, inr, arith, append-nil, true≢false}
 use Rattle.std.specs.Prelude.{IsTrue, IsFalse}
 use Rattle.std.proofs.lemmas.Bool.{cases_lt}
-use Rattle.bone_desk.specs.Told.{Told, Took, AtEnd, Rose}
+use Rattle.bone_desk.specs.Told.{Told, Took, Rose}
 use Rattle.bone_desk.specs.declared.desk.Act.{Act}
 use Rattle.bone_desk.specs.declared.desk.Act.TheVariants.{Read}
 use Rattle.bone_desk.specs.declared.desk.Feed.{Feed}
 use Rattle.bone_desk.specs.declared.desk.Feed.TheVariants as feed
-use Rattle.bone_desk.proofs.Steps.{took_none, took_more, counts_never_fall}
+use Rattle.bone_desk.proofs.Steps.{took_more, counts_never_fall}
 use Rattle.cnf_core.specs.Formulas.{Cnf}
 use Rattle.text_lines.specs.Feeds.{Came, CameWhole}
 use Rattle.answer_text.specs.declared.stage.LineFault.{LineFault}
 use Rattle.answer_text.specs.declared.stage.LineFault.TheVariants as line
-use Rattle.answer_text.specs.declared.stage.Stage.TheVariants as stage
 use Rattle.answer_text.specs.Reading.{Read as AnswerRead, reading_of}
-use Rattle.answer_text.specs.Answers.{IsFaulty}
+use Rattle.answer_text.specs.declared.read.AnswerEnd.{AnswerEnd}
+use Rattle.answer_text.specs.declared.read.AnswerEnd.TheVariants as answer_end
+use Rattle.answer_text.specs.Answers.{IsFaulty, Ends}
 use Rattle.witness_text.specs.Texts.{witness_reading}
 use Rattle.bone_check.specs.declared.verdict.Verdict.{Verdict}
 use Rattle.bone_check.specs.declared.verdict.Verdict.TheVariants.{NotVerified}
@@ -24,6 +25,7 @@ use Rattle.bone_check.specs.Verdicts.{verdict_of, proof_reading, answer_reason, 
 use Rattle.bone_check.specs.ProofFeed.{IsLeft}
 use Rattle.bone_check.specs.Checks.{Texts, AllCame, is_read, limit_of, Says, IsVerdict, ChecksAll, verdict_on}
 use Rattle.bone_check.specs.Steps.Parts.{texts_of, ChecksRest}
+use Rattle.bone_check.specs.Steps.Ending as ending
 use Rattle.bone_check.proofs.Gathered.{came_none, all_came, untouched, all_within, at_end, Judge, judged_on}
 
 -- a text that reads as an answer is judged as such
@@ -57,20 +59,30 @@ answer_decides F witness old new answer verdict came whole decides = record {
   };
 }
 
-pub answer_fails : (F : Cnf) (witness : Bool) (old new : Told) (answer : List ℕ) (n : ℕ) (fault : LineFault) → Came feed.Answer old new answer
+answer_fails : (F : Cnf) (witness : Bool) (old new : Told) (answer : List ℕ) (n : ℕ) (fault : LineFault) → Came feed.Answer old new answer
     → IsFaulty F.vars new answer n fault → ChecksAll F witness old new (Ok (NotVerified (answer_reason fault) n))
 answer_fails F witness old new answer n fault came faulty =
     answer_decides F witness old new answer (NotVerified (answer_reason fault) n) came faulty.came
     (λ p w. faulty_answer F answer p w n fault faulty.reading)
 
 -- the answer wasn't read
-pub answer_ends : (F : Cnf) (witness : Bool) (old new : Told) (answer : List ℕ) (end : CheckEnd) → Came feed.Answer old new answer
+answer_ends : (F : Cnf) (witness : Bool) (old new : Told) (answer : List ℕ) (end : CheckEnd) → Came feed.Answer old new answer
     → Says witness old new (texts_of answer [] []) (verdict_on F witness) (Err end) → ChecksAll F witness old new (Err end)
 answer_ends F witness old new answer end came says = record {
   came = texts_of answer [] [];
   all = all_came witness old new new new answer [] [] came (came_none feed.Proof new) (came_none feed.Witness new) (λ isnt. untouched new);
   says = says;
 }
+
+-- it doesn't read, or wasn't read
+pub answer_unread : (F : Cnf) (witness : Bool) (old new : Told) (answer : List ℕ) (end : AnswerEnd) → Came feed.Answer old new answer
+    → Ends F.vars old new answer (Err end) → ChecksAll F witness old new (ending.answer_end end)
+answer_unread F witness old new answer (answer_end.BadLine n) came ends = answer_fails F witness old new answer n line.Bad came ends
+answer_unread F witness old new answer (answer_end.NotSorted n) came ends = answer_fails F witness old new answer n line.NotSorted came ends
+answer_unread F witness old new answer answer_end.Fault came ends =
+    answer_ends F witness old new answer (Fault feed.Answer) came (refl, ends.rose)
+answer_unread F witness old new answer answer_end.TooLong came ends = answer_ends F witness old new answer (TooLong feed.Answer) came ends
+answer_unread F witness old new answer answer_end.Memory came ends = answer_ends F witness old new answer Memory came tt
 
 rose_since : (act : Act) (old mid new : Told) → old.faults act ≤ mid.faults act → mid.faults act ≤ new.faults act → Rose act mid new
     → Rose act old new

@@ -2,7 +2,6 @@
 use Rattle.std.proofs.Common.{◌≡◌, ◌≢◌, ℕ, ◌<◌, ◌≤◌, ◌-◌, ◌^◌, ◌+◌, Bool, true, false, if◌then◌else◌, List, [], ◌∷◌, ◌++◌, Option, Some, None, Result, Ok, Err, length, refl, sym, ap, ◌∙◌, subst, arith, true≢false}
 use Rattle.std.specs.Prelude.{IsTrue}
 use Rattle.bone_desk.specs.Told.{Told, Rose}
-use Rattle.bone_desk.specs.declared.desk.Act.{Act}
 use Rattle.bone_desk.specs.declared.desk.Act.TheVariants.{Read}
 use Rattle.bone_desk.specs.declared.desk.Feed.{Feed}
 use Rattle.bone_desk.specs.declared.desk.Feed.TheVariants as feed
@@ -15,10 +14,9 @@ use Rattle.witness_text.specs.Reading.{Witnessed}
 use Rattle.bone_check.specs.declared.verdict.Reason.{Reason}
 use Rattle.bone_check.specs.declared.verdict.Reason.TheVariants.{NoEmpty}
 use Rattle.bone_check.specs.declared.verdict.Verdict.{Verdict}
-use Rattle.bone_check.specs.declared.verdict.Verdict.TheVariants.{Verified, NotVerified}
+use Rattle.bone_check.specs.declared.verdict.Verdict.TheVariants.{NotVerified}
 use Rattle.bone_check.specs.declared.verdict.CheckEnd.{CheckEnd}
 use Rattle.bone_check.specs.declared.verdict.CheckEnd.TheVariants.{Fault, TooLong, Memory}
-use Rattle.bone_check.specs.declared.proof.ProofEnd.{ProofEnd}
 use Rattle.bone_check.specs.declared.proof.ProofEnd.TheVariants.{Taken, Fails}
 use Rattle.bone_check.specs.declared.evidence.Evidence.{Evidence}
 use Rattle.bone_check.specs.declared.evidence.Evidence.TheVariants.{Unasked, Tells, BadLine}
@@ -27,7 +25,7 @@ use Rattle.witness_text.proofs.ReadTells.{texts_tell}
 use Rattle.bone_check.specs.Steps.Verified.{is_verified}
 use Rattle.bone_check.proofs.Witnessed.{goes_on}
 use Rattle.bone_check.specs.Tests.{at_place, ◌then◌, each_from}
-use Rattle.bone_check.specs.Proving.{has_empty, empty_fault, unit_fault}
+use Rattle.bone_check.specs.Proving.{has_empty, unit_fault}
 use Rattle.bone_check.specs.Verdicts.{unsat_verdict, no_lines, sat_verdict, evidence_verdict}
 use Rattle.bone_check.specs.ProofFeed.{ReadsProof, ProofSays}
 use Rattle.bone_check.specs.Checks.{Texts, Says, is_read, limit_of}

@@ -12,7 +12,7 @@ use Rattle.bone_check.specs.declared.verdict.Reason.{Reason}
 use Rattle.bone_check.specs.declared.verdict.Reason.TheVariants.{NotCovered}
 use Rattle.bone_check.specs.declared.verdict.Verdict.{Verdict}
 use Rattle.bone_check.specs.declared.verdict.Verdict.TheVariants.{Verified, NotVerified}
-use Rattle.bone_check.specs.Tests.{at_place, ◌then◌, each_from}
+use Rattle.bone_check.specs.Tests.{◌then◌, each_from}
 use Rattle.bone_check.specs.Witnessing.{variables, is_covered, cover_fault}
 use Rattle.bone_check.specs.Steps.Covering.{mark_fault}
 use Rattle.bone_check.proofs.TestLemmas.{passes_alone, fails_first, each_append, each_same}

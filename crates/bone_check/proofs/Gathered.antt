@@ -6,7 +6,6 @@ use Rattle.bone_desk.specs.declared.desk.Act.{Act}
 use Rattle.bone_desk.specs.declared.desk.Act.TheVariants.{Read}
 use Rattle.bone_desk.specs.declared.desk.Feed.{Feed}
 use Rattle.bone_desk.specs.declared.desk.Feed.TheVariants as feed
-use Rattle.bone_desk.specs.declared.desk.Port.{Port}
 use Rattle.bone_desk.proofs.Steps.{took_none, reads_none, counts_never_fall}
 use Rattle.text_lines.specs.Feeds.{Came}
 use Rattle.bone_desk.specs.Told.{AtEnd}
@@ -24,7 +23,7 @@ use Rattle.bone_check.specs.Verdicts.{proof_reading}
 use Rattle.bone_check.specs.ProofFeed.{IsLeft, IsTaken, IsUntaken}
 use Rattle.bone_check.specs.Checks.{Texts, AllCame, is_read, limit_of, IsVerdict}
 use Rattle.bone_check.specs.Steps.Parts.{texts_of}
-use Rattle.bone_check.specs.Steps.Evidence.{IsEvidenceOf, IsWhole, reading_told}
+use Rattle.bone_check.specs.Steps.Evidence.{IsEvidenceOf, reading_told}
 
 pub came_none : (f : Feed) (t : Told) → Came f t t []
 came_none f t = record { took = took_none f t; only = reads_none f t }

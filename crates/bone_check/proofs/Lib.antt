@@ -13,3 +13,5 @@ pub mod Verified
 pub mod Gathered
 pub mod Concluded
 pub mod Answered
+pub mod PrintedLines
+pub mod Completed

@@ -1,5 +1,5 @@
 -- The lines of a proof's text, one after another, as they come of the feed.
-use Rattle.std.proofs.Common.{◌≡◌, ℕ, suc, zero, ◌+◌, ◌<◌, ◌≤◌, ◌^◌, ◌==◌, Bool, true, false, if◌then◌else◌, List, [], ◌∷◌, ◌++◌, Option, Some, None, Result, Ok, Err, length, refl, sym, ap, ◌∙◌, subst, inl, inr, ⊎_elim, arith, append-nil, append_assoc, length-append}
+use Rattle.std.proofs.Common.{◌≡◌, ℕ, suc, ◌+◌, ◌≤◌, ◌==◌, List, [], ◌∷◌, ◌++◌, Result, Ok, Err, length, refl, ap, ◌∙◌, subst, inl, inr, arith, append-nil, length-append}
 use Rattle.std.proofs.lemmas.Bool.{cases_Bool}
 use Rattle.std.proofs.lemmas.List.{length_push}
 use Rattle.bone_desk.specs.Told.{Told, AtEnd}
@@ -9,20 +9,17 @@ use Rattle.lrat_lines.specs.declared.line.Line.{Line}
 use Rattle.lrat_checker.specs.Checking.{Kept, StandsFor}
 use Rattle.text_lines.specs.Lines as text
 use Rattle.text_lines.specs.Lines.{lines_of, with_byte}
-use Rattle.text_lines.specs.Feeds.{Came, IsReadFault, IsTooLong}
-use Rattle.text_lines.specs.Progress.{Progress, HasRead, IsWhole, Answered, Advanced}
+use Rattle.text_lines.specs.Feeds.{IsReadFault}
+use Rattle.text_lines.specs.Progress.{Progress, HasRead, IsWhole, Answered}
 use Rattle.text_lines.specs.Readings.{FaultAt, steps, at_line, ◌>>=◌}
 use Rattle.text_lines.specs.declared.feed.FeedEnd.{FeedEnd}
 use Rattle.text_lines.specs.declared.feed.FeedEnd.TheVariants as end
 use Rattle.bone_check.specs.declared.verdict.Reason.{Reason}
-use Rattle.bone_check.specs.declared.verdict.CheckEnd.{CheckEnd}
 use Rattle.bone_check.specs.declared.line.Untaken.{Untaken}
 use Rattle.bone_check.specs.declared.line.Untaken.TheVariants as untaken
-use Rattle.bone_check.specs.declared.proof.ProofEnd.{ProofEnd}
-use Rattle.bone_check.specs.declared.proof.ProofEnd.TheVariants as proof
 use Rattle.bone_check.specs.Proving.{after_text}
 use Rattle.bone_check.specs.Verdicts.{text_step, proof_reading}
-use Rattle.bone_check.specs.ProofFeed.{proof_limit, IsLeft, IsTaken, IsUntaken, ProofSays, ReadsProof}
+use Rattle.bone_check.specs.ProofFeed.{proof_limit, IsTaken, IsUntaken, ProofSays}
 use Rattle.bone_check.specs.Steps.Taking.{TextSays}
 use Rattle.bone_check.specs.Steps.Ending.{proof_end, untaken_at}
 

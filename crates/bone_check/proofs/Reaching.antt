@@ -1,13 +1,13 @@
 -- The tests of what a proof reaches, and what is entailed by it.
-use Rattle.std.proofs.Common.{◌≡◌, ◌↔◌, ℕ, Bool, true, false, ◌&&◌, ◌||◌, IsTrue, List, [], ◌∷◌, Contains, refl, sym, ap, ◌∙◌, subst, ⊎_elim}
-use Rattle.std.specs.List.{list_any, list_all}
+use Rattle.std.proofs.Common.{◌≡◌, ◌↔◌, Bool, true, false, IsTrue, List, [], ◌∷◌, Contains, refl, subst, ⊎_elim}
+use Rattle.std.specs.List.{list_all}
 use Rattle.std.proofs.lemmas.Bool.{and_parts, and_from, or_cases, both_ways}
-use Rattle.cnf_core.specs.Literals.{Literal, Literals, Assignment, is_true, clause_true}
-use Rattle.cnf_core.specs.Formulas.{Cnf, models, IsModel, Entails, EntailsClause}
-use Rattle.cnf_core.proofs.Lists.{Contains-head, Contains-tail, Contains-nil, Contains-cons_cases, list_any_of_member, member_of_list_any, list_all_of_members, passes_of_list_all}
+use Rattle.cnf_core.specs.Literals.{Literal, Literals, is_true}
+use Rattle.cnf_core.specs.Formulas.{Cnf, models, Entails, EntailsClause}
+use Rattle.cnf_core.proofs.Lists.{Contains-head, Contains-nil, Contains-cons_cases, list_any_of_member, member_of_list_any, list_all_of_members, passes_of_list_all}
 use Rattle.cnf_core.proofs.Models.{models-nil, entails_by, entails_clause_at}
 use Rattle.lrat_lines.specs.declared.line.Line.{Line}
-use Rattle.lrat_lines.specs.Sets.{is_same, has, IsSameSet, HasSet}
+use Rattle.lrat_lines.specs.Sets.{is_same, has, IsSameSet}
 use Rattle.lrat_lines.specs.Proofs.{Proves, reached, IsReached}
 use Rattle.lrat_lines.proofs.LiteralSets.{is_same-true, is_same_of_equal, Contains_of_has, has_of_Contains}
 use Rattle.lrat_lines.proofs.Entailment.{reached_is_entailed}

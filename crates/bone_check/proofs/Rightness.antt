@@ -1,11 +1,11 @@
 -- Why a printed list is the shown part of the backbone, where the tests of an answer with a model pass.
-use Rattle.std.proofs.Common.{◌≡◌, ◌≢◌, ℕ, zero, suc, ◌+◌, ◌<◌, ◌≤◌, ◌==◌, Bool, true, false, not, ◌&&◌, ◌||◌, if◌then◌else◌, IsTrue, List, [], ◌∷◌, ◌++◌, Option, Some, None, length, All, Contains, refl, sym, ap, ◌∙◌, subst, ⊎_elim, inl, inr, arith}
+use Rattle.std.proofs.Common.{◌≡◌, ℕ, zero, suc, ◌+◌, ◌<◌, ◌≤◌, ◌==◌, Bool, true, false, not, ◌&&◌, if◌then◌else◌, IsTrue, List, [], ◌∷◌, ◌++◌, Some, None, length, Contains, refl, sym, ap, ◌∙◌, subst, ⊎_elim, inl, inr, arith}
 use Rattle.std.specs.List.{list_any}
 use Rattle.std.proofs.Common.{length-set}
 use Rattle.std.proofs.lemmas.Bool.{and_parts, or_cases, cases_eq, not-true, both_ways, eqb-true}
 use Rattle.std.proofs.lemmas.List.Elements.{Contains-append_left, Contains-push, Contains-get_or}
-use Rattle.cnf_core.specs.Literals.{Literal, Literals, Assignment, is_true, all_true, IsWithin, RisesByVar}
-use Rattle.cnf_core.specs.Formulas.{Cnf, IsModel, Entails, is_shown, shown_backbone, true_literal}
+use Rattle.cnf_core.specs.Literals.{Literal, Literals, Assignment, is_true, all_true}
+use Rattle.cnf_core.specs.Formulas.{Cnf, IsModel, Entails, is_shown, true_literal}
 use Rattle.cnf_core.specs.Laws.{IsShownBackboneOf}
 use Rattle.cnf_core.proofs.Lists.{Contains-head, member_of_list_any}
 use Rattle.cnf_core.proofs.Truth.{true_literal_of_is_true}
@@ -16,8 +16,6 @@ use Rattle.lrat_lines.specs.Proofs.{Proves}
 use Rattle.witness_text.specs.declared.line.WitnessLine.{WitnessLine}
 use Rattle.witness_text.specs.Reading.{Witnessed}
 use Rattle.witness_text.specs.Models.{model_in}
-use Rattle.bone_check.specs.declared.verdict.Reason.{Reason}
-use Rattle.bone_check.specs.declared.verdict.Verdict.{Verdict}
 use Rattle.bone_check.specs.declared.verdict.Verdict.TheVariants.{Verified}
 use Rattle.bone_check.specs.Tests.{◌then◌, each_from}
 use Rattle.bone_check.specs.Proving.{has_unit, unit_fault}

@@ -1,5 +1,5 @@
 -- What the answers of a reader of lines and of a checker say of a line's text.
-use Rattle.std.proofs.Common.{◌≡◌, ℕ, Bool, true, false, List, [], ◌∷◌, ◌++◌, Option, Some, None, Result, Ok, Err, refl, sym, ap, ◌∙◌}
+use Rattle.std.proofs.Common.{◌≡◌, ℕ, true, false, List, [], ◌∷◌, ◌++◌, Some, Result, Ok, Err, refl, ap, ◌∙◌}
 use Rattle.cnf_core.specs.Formulas.{Cnf}
 use Rattle.lrat_lines.specs.declared.line.Line.{Line}
 use Rattle.lrat_lines.specs.declared.line.LineEnd.{LineEnd}
@@ -11,7 +11,6 @@ use Rattle.lrat_checker.specs.declared.refused.Refused.{Refused}
 use Rattle.lrat_checker.specs.declared.refused.Refused.TheVariants as refused
 use Rattle.lrat_checker.specs.Refusals.{refusal_in}
 use Rattle.lrat_checker.specs.Checking.{Kept, StandsFor, Answers}
-use Rattle.bone_check.specs.declared.verdict.Reason.{Reason}
 use Rattle.bone_check.specs.declared.line.Untaken.{Untaken}
 use Rattle.bone_check.specs.declared.line.Untaken.TheVariants.{Fails, Memory}
 use Rattle.bone_check.specs.Proving.{is_skipped, refusal_reason, unless_refused, with_line, after_text}

@@ -1,6 +1,6 @@
 -- Verdicts of tests in a row, and of one test on each element of a list.
 use Rattle.std.proofs.Common.{◌≡◌, ℕ, suc, zero, ◌+◌, ◌<◌, ◌≤◌, List, [], ◌∷◌, ◌++◌, Option, Some, None, length, take, drop, get_or, Contains, take-append-drop, refl, sym, ap, ◌∙◌, subst, ⊎_elim, arith}
-use Rattle.std.proofs.lemmas.List.{take_more, drop_more, length_push, take_all}
+use Rattle.std.proofs.lemmas.List.{take_more, drop_more, take_all}
 use Rattle.std.proofs.Common.{length-take}
 use Rattle.std.specs.Prelude.{slice_get}
 use Rattle.std.proofs.lemmas.Option.{slice_get-get_or, get_or_from_slice_get}
@@ -29,6 +29,14 @@ each_passed test place (y ∷ xs) x passed there =
     (λ (is : y ≡ x). ap test (sym is) ∙ passed_at place (test y) parts.0)
     (λ (later : Contains xs x). each_passed test (place + 1) xs x parts.1 later)
     (Contains-cons_cases y xs x there)
+
+-- and where it passes on each, it passes on each in turn
+pub each_verified : {X : Type 0} (test : X → Option Reason) (place : ℕ) (xs : List X) → ((x : X) → Contains xs x → test x ≡ None)
+    → each_from test place xs ≡ Verified
+each_verified test place [] pass = refl
+each_verified test place (x ∷ xs) pass =
+    ap (λ (fault : Option Reason). at_place place fault then each_from test (place + 1) xs) (pass x (Contains-head x xs))
+    ∙ each_verified test (place + 1) xs (λ y there. pass y (Contains-tail x xs y there))
 
 then_assoc : (a b c : Verdict) → ((a then b) then c) ≡ (a then (b then c))
 then_assoc Verified b c = refl

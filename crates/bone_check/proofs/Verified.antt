@@ -1,10 +1,10 @@
 -- Why a verified answer is right.
-use Rattle.std.proofs.Common.{◌≡◌, ◌≢◌, ℕ, ◌+◌, ◌≤◌, ◌^◌, Bool, true, false, if◌then◌else◌, IsTrue, List, [], ◌∷◌, ◌++◌, Option, Some, None, Result, Ok, Err, length, Contains, refl, sym, ap, ◌∙◌, subst, inl, inr, ⊎_elim}
-use Rattle.std.specs.Prelude.{IsOk, is_ok}
+use Rattle.std.proofs.Common.{◌≡◌, ◌≢◌, ℕ, ◌+◌, ◌≤◌, ◌^◌, Bool, true, false, IsTrue, List, [], ◌∷◌, ◌++◌, None, Result, Ok, Err, length, refl, sym, ap, ◌∙◌, subst, inl, inr}
+use Rattle.std.specs.Prelude.{is_ok}
 use Rattle.std.proofs.lemmas.Bool.{cases_Bool}
 use Rattle.std.proofs.lemmas.List.Elements.{All-contains}
-use Rattle.cnf_core.specs.Literals.{Literals, Assignment, RisesByVar}
-use Rattle.cnf_core.specs.Formulas.{Cnf, models, IsModel, shown_backbone}
+use Rattle.cnf_core.specs.Literals.{Literals, RisesByVar}
+use Rattle.cnf_core.specs.Formulas.{Cnf, models, shown_backbone}
 use Rattle.cnf_core.proofs.Models.{no_model}
 use Rattle.lrat_lines.specs.declared.line.Line.{Line}
 use Rattle.lrat_lines.specs.declared.line.LineEnd.{LineEnd}
@@ -17,19 +17,17 @@ use Rattle.text_lines.specs.Readings.{FaultAt, steps, at_line, ◌>>=◌}
 use Rattle.answer_text.specs.declared.stage.Stage.{Stage}
 use Rattle.answer_text.specs.declared.stage.Stage.TheVariants as stage
 use Rattle.answer_text.specs.declared.stage.LineFault.{LineFault}
-use Rattle.answer_text.specs.AnswerText.{sat_text, unsat_text, answer_text}
+use Rattle.answer_text.specs.AnswerText.{sat_text, answer_text}
 use Rattle.answer_text.specs.Reading.{Read, reading_of}
 use Rattle.answer_text.proofs.SoFar.{unsat_read, sat_read}
 use Rattle.answer_text.proofs.Verdicts.{answer_text-sat, answer_text-unsat}
-use Rattle.witness_text.specs.declared.line.WitnessLine.{WitnessLine}
 use Rattle.witness_text.specs.Reading.{Witnessed}
 use Rattle.witness_text.specs.Texts.{witness_reading}
-use Rattle.witness_text.specs.Told.{IsWitness, HasLength, IsDropOf}
+use Rattle.witness_text.specs.Told.{HasLength, IsDropOf}
 use Rattle.witness_text.proofs.ReadTells.{texts_tell}
 use Rattle.bone_check.specs.declared.verdict.Reason.{Reason}
-use Rattle.bone_check.specs.declared.verdict.Verdict.{Verdict}
 use Rattle.bone_check.specs.declared.verdict.Verdict.TheVariants.{Verified}
-use Rattle.bone_check.specs.Tests.{at_place, ◌then◌, each_from}
+use Rattle.bone_check.specs.Tests.{at_place, each_from}
 use Rattle.bone_check.specs.Proving.{is_skipped, unless_refused, with_line, after_text, has_empty, empty_fault, unit_fault}
 use Rattle.bone_check.specs.Witnessing.{witness_verdict}
 use Rattle.bone_check.specs.Verdicts.{text_step, proof_reading, no_lines, unsat_verdict, evidence_verdict, sat_verdict, answer_verdict, read_verdict, verdict_of}

@@ -1,9 +1,8 @@
 -- The tests of a witness, one after another.
-use Rattle.std.proofs.Common.{◌≡◌, ◌≢◌, ℕ, ◌+◌, ◌<◌, ◌≤◌, Bool, true, false, if◌then◌else◌, List, [], ◌∷◌, Option, Some, None, length, All, refl, sym, ap, ◌∙◌, arith}
-use Rattle.std.specs.Prelude.{slice_get}
+use Rattle.std.proofs.Common.{◌≡◌, ◌≢◌, ℕ, Bool, true, false, if◌then◌else◌, List, [], ◌∷◌, Some, None, length, All, refl, arith}
 use Rattle.std.proofs.lemmas.List.Elements.{All-contains, Contains-get_or}
-use Rattle.cnf_core.specs.Literals.{Assignment, all_true, IsWithin}
-use Rattle.cnf_core.specs.Formulas.{Cnf, IsModel}
+use Rattle.cnf_core.specs.Literals.{Assignment, all_true}
+use Rattle.cnf_core.specs.Formulas.{Cnf}
 use Rattle.lrat_lines.proofs.Entailment.{member_of_slice_get}
 use Rattle.witness_text.specs.declared.line.WitnessLine.{WitnessLine}
 use Rattle.witness_text.specs.Models.{model_in}

@@ -4,5 +4,6 @@ pub mod Witnessing
 pub mod Verdicts
 pub mod ProofFeed
 pub mod Checks
+pub mod Complete
 pub mod Laws
 pub mod Steps

@@ -1,5 +1,5 @@
 -- The tests of a proof's lines, and of what the proof has to reach.
-use Rattle.std.specs.Prelude.{ℕ, zero, suc, ◌==◌, ◌&&◌, Bool, true, false, if◌then◌else◌, List, [], ◌∷◌, ◌++◌, Option, Some, None, Result, Ok, Err, slice_index}
+use Rattle.std.specs.Prelude.{ℕ, ◌==◌, ◌&&◌, Bool, true, false, if◌then◌else◌, List, [], ◌∷◌, ◌++◌, Option, Some, None, Result, Ok, Err}
 use Rattle.std.specs.List.{list_any, list_all}
 use Rattle.cnf_core.specs.Literals.{Literal, Literals}
 use Rattle.cnf_core.specs.Formulas.{Cnf, is_shown}
@@ -14,9 +14,6 @@ use Rattle.lrat_lines.specs.Propagation as why
 use Rattle.lrat_lines.specs.Proofs.{Progress, checked, reached}
 use Rattle.bone_check.specs.declared.verdict.Reason.{Reason}
 use Rattle.bone_check.specs.declared.verdict.Reason.TheVariants.{BadToken, NotEnded, NegativeHint, IdNotRising, VarRange, UnknownHint, NotUnit, NoConflict, NoEmpty, NotShown, NoUnit}
-use Rattle.bone_check.specs.declared.verdict.Verdict.{Verdict}
-use Rattle.bone_check.specs.declared.verdict.Verdict.TheVariants.{NotVerified}
-use Rattle.bone_check.specs.Tests.{at_place}
 
 -- lines of gaps alone are skipped, and those whose first byte that is no gap is the letter `c`
 abbrev pub is_skipped : List ℕ → Bool

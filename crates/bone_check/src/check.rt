@@ -3,6 +3,7 @@ ghost use Rattle.std.specs.Prelude.{◌≡◌, ℕ};
 ghost use Rattle.cnf_core.specs.Literals.{AreWithin};
 ghost use Rattle.bone_check.specs.Checks.{ChecksAll};
 ghost use Rattle.bone_check.specs.Verdicts.{no_lines};
+ghost use Rattle.bone_check.specs.Steps.Ending.{answer_end};
 ghost use Rattle.bone_check.specs.Steps.Parts.{unsat_on, sat_on, ChecksRest};
 ghost use Rattle.bone_check.specs.Steps.Evidence.{reading_told, IsReadEvidence, JudgesEvidence};
 ghost use Rattle.bone_check.specs.declared.verdict.Verdict.TheVariants.{NotVerified};
@@ -45,11 +46,20 @@ pub fn check_all<D: Desk>(
             },
         ) => Ok(not_verified(Reason::Unfinished, 1)),
         Ok(Answer::Unknown) => Ok(not_verified(Reason::Unfinished, 1)),
-        Err(AnswerEnd::BadLine(line)) => Ok(not_verified(Reason::BadLine, line)),
-        Err(AnswerEnd::NotSorted(line)) => Ok(not_verified(Reason::NotSorted, line)),
-        Err(AnswerEnd::Fault) => Err(CheckEnd::Fault(Feed::Answer)),
-        Err(AnswerEnd::TooLong) => Err(CheckEnd::TooLong(Feed::Answer)),
-        Err(AnswerEnd::Memory) => Err(CheckEnd::Memory),
+        Err(end) => answer_end(end),
+    }
+}
+
+/// What an answer leads to that doesn't read.
+fn answer_end(end: AnswerEnd) -> Result<Verdict, CheckEnd>
+    ensures { result ≡ answer_end end }
+{
+    match end {
+        AnswerEnd::BadLine(line) => Ok(not_verified(Reason::BadLine, line)),
+        AnswerEnd::NotSorted(line) => Ok(not_verified(Reason::NotSorted, line)),
+        AnswerEnd::Fault => Err(CheckEnd::Fault(Feed::Answer)),
+        AnswerEnd::TooLong => Err(CheckEnd::TooLong(Feed::Answer)),
+        AnswerEnd::Memory => Err(CheckEnd::Memory),
     }
 }
 

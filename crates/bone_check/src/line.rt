@@ -5,7 +5,7 @@ ghost use Rattle.lrat_lines.specs.declared.line.Line.{Line as ProofLine};
 ghost use Rattle.lrat_lines.specs.Tokens.{is_gap};
 ghost use Rattle.lrat_checker.specs.Checking.{StandsFor};
 ghost use Rattle.bone_check.specs.Proving.{is_skipped};
-ghost use Rattle.bone_check.specs.Steps.Taking.{untaken_end, untaken_refusal, LineSays, TextSays};
+ghost use Rattle.bone_check.specs.Steps.Taking.{untaken_end, untaken_refusal, LineSays, TakesText};
 
 use crate::Reason;
 use lrat_checker::{Checker, Refused};
@@ -23,8 +23,7 @@ pub enum Untaken {
 
 /// Has the checker take what a line of a proof's text says, if it says something.
 pub fn take_line(alloc: Global, checker: &mut Checker, bytes: &[u8]) -> Result<(), Untaken>
-    ensures { (F : Cnf) (lines : List ProofLine) → StandsFor checker.old F lines
-        → TextSays F lines bytes.now checker.new result }
+    ensures { TakesText bytes.now checker.old checker.new result }
 {
     if is_skipped(bytes) {
         return Ok(());

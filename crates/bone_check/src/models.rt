@@ -18,12 +18,25 @@ pub fn judge_models(formula: &Formula, models: &PackedModels, values: &mut Value
 {
     for number in 0..models.len() {
         models.copy_to(number, values);
-        if !is_model(formula, values) {
+        if let Some(reason) = model_fault(formula, values) {
             return Verdict::NotVerified {
-                reason: Reason::NotAModel,
+                reason,
                 place: number + 1,
             };
         }
     }
     Verdict::Verified
+}
+
+/// Why these values don't pass as a model.
+#[tactic(auto, using(crate::proofs::Judged::told_none, crate::proofs::Judged::told_some))]
+fn model_fault(formula: &Formula, values: &Values) -> Option<Reason>
+    requires { length values.now ≡ formula.now.vars }
+    ensures { result ≡ model_fault formula.now values.now }
+{
+    if is_model(formula, values) {
+        None
+    } else {
+        Some(Reason::NotAModel)
+    }
 }

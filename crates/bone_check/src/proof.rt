@@ -1,6 +1,7 @@
 //! The feed with the proof.
 ghost use Rattle.std.specs.Prelude.{◌≡◌};
 ghost use Rattle.bone_check.specs.ProofFeed.{ReadsProof};
+ghost use Rattle.bone_check.specs.Steps.Taking.{TakesText};
 ghost use Rattle.bone_check.specs.Steps.Ending.{proof_end, untaken_at};
 
 use crate::line::{Untaken, take_line};
@@ -44,10 +45,17 @@ pub fn check_proof<D: Desk>(
             return Ok(ProofEnd::Taken(checker));
         }
         line += 1;
-        if let Err(untaken) = take_line(alloc, &mut checker, lines.bytes()) {
+        if let Err(untaken) = take_next(alloc, &mut checker, &lines) {
             return untaken_at(untaken, line);
         }
     }
+}
+
+/// Has the checker take what the line says that came last.
+fn take_next(alloc: Global, checker: &mut Checker, lines: &FeedLines) -> Result<(), Untaken>
+    ensures { TakesText lines.now.line.bytes checker.old checker.new result }
+{
+    take_line(alloc, checker, lines.bytes())
 }
 
 /// Why the proof gives no further line.

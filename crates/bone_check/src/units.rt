@@ -1,5 +1,6 @@
 //! The literals that an answer prints.
 ghost use Rattle.std.specs.Prelude.{◌≡◌, ℕ, List};
+ghost use Rattle.cnf_core.specs.Formulas.{is_shown};
 ghost use Rattle.lrat_lines.specs.declared.line.Line.{Line};
 ghost use Rattle.lrat_checker.specs.Checking.{StandsFor};
 ghost use Rattle.bone_check.specs.Tests.{each_from};
@@ -33,11 +34,18 @@ fn unit_fault(formula: &Formula, checker: &Checker, lit: Lit) -> Option<Reason>
     ensures { (lines : List Line) → StandsFor checker.now formula.now lines
         → result ≡ unit_fault formula.now lines lit }
 {
-    if !formula.is_shown(lit.var()) {
+    if !is_shown(formula, lit) {
         Some(Reason::NotShown)
     } else if !checker.has_unit(lit) {
         Some(Reason::NoUnit)
     } else {
         None
     }
+}
+
+/// Whether the literal's variable is asked for.
+fn is_shown(formula: &Formula, lit: Lit) -> bool
+    ensures { result ≡ is_shown formula.now lit.var }
+{
+    formula.is_shown(lit.var())
 }

@@ -1,5 +1,5 @@
 -- The drop lines, by the models that they take.
-use Rattle.std.specs.Prelude.{◌≡◌, ℕ, ◌+◌, ◌<◌, ◌≤◌, Bool, true, false, not, ◌&&◌, IsTrue, List, [], length, Some, slice_get, slice_index_or}
+use Rattle.std.specs.Prelude.{◌≡◌, ℕ, ◌+◌, ◌<◌, ◌≤◌, Bool, false, not, ◌&&◌, IsTrue, List, length, Some, slice_get, slice_index_or}
 use Rattle.cnf_core.specs.Literals.{Literal, Assignment, is_true, all_true, IsWithin}
 use Rattle.cnf_core.specs.Formulas.{Cnf, IsModel}
 use Rattle.model_check.specs.Flips.{flipped}

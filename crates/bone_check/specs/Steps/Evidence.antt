@@ -4,7 +4,6 @@ use Rattle.bone_desk.specs.Told.{Told, AtEnd}
 use Rattle.bone_desk.specs.declared.desk.Feed.TheVariants as feed
 use Rattle.text_lines.specs.Feeds.{Came, IsReadFault, IsTooLong}
 use Rattle.text_lines.specs.Readings.{FaultAt}
-use Rattle.witness_text.specs.declared.read.WitnessText.{WitnessText}
 use Rattle.witness_text.specs.Reading.{Witnessed, none_read}
 use Rattle.witness_text.specs.Texts.{witness_reading, told_by}
 use Rattle.witness_text.specs.Told.{IsWitness}

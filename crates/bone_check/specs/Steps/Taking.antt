@@ -47,3 +47,7 @@ abbrev pub TextSays : Cnf → List Line → List ℕ → Kept → Result (Unit {
 TextSays F lines text new (Ok done) = Leads F lines text new
 TextSays F lines text new (Err (Fails reason)) = after_text F lines text ≡ Err reason
 TextSays F lines text new (Err Memory) = Unit {0}
+
+-- the same of all lines for which the checker stood
+pub record TakesText (text : List ℕ) (old new : Kept) (result : Result (Unit {0}) Untaken) : Type 0 where
+  pub says : (F : Cnf) (lines : List Line) → StandsFor old F lines → TextSays F lines text new result

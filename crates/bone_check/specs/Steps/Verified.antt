@@ -1,5 +1,5 @@
 -- Whether tests passed, and the tests of a witness behind its models.
-use Rattle.std.specs.Prelude.{ℕ, ◌+◌, Bool, true, false, List, length}
+use Rattle.std.specs.Prelude.{◌+◌, Bool, true, false, List, length}
 use Rattle.cnf_core.specs.Literals.{Literals, Assignment}
 use Rattle.cnf_core.specs.Formulas.{Cnf}
 use Rattle.witness_text.specs.declared.line.WitnessLine.{WitnessLine}

@@ -1,24 +1,16 @@
-use Rattle.std.proofs.Common.{◌≡◌, ◌∙◌, ℕ, Bool, true, false, List, Result, Ok, Err, refl, sym, ap, subst}
-use Rattle.cnf_core.specs.Literals.{Literals}
-use Rattle.lrat_lines.specs.declared.line.Line.{Line}
-use Rattle.text_lines.specs.Readings.{FaultAt}
-use Rattle.bone_check.specs.declared.verdict.Reason.TheVariants.{NoEmpty}
+use Rattle.std.proofs.Common.{◌∙◌, ℕ, Result, Ok, refl, sym, ap, subst}
 use Rattle.bone_check.specs.declared.verdict.Verdict.{Verdict}
-use Rattle.bone_check.specs.declared.verdict.Verdict.TheVariants.{NotVerified}
 use Rattle.bone_check.specs.declared.verdict.CheckEnd.{CheckEnd}
 use Rattle.bone_check.specs.declared.proof.ProofEnd.{ProofEnd}
 use Rattle.bone_check.specs.declared.evidence.Evidence.{Evidence}
-use Rattle.bone_check.specs.Verdicts.{unsat_verdict, sat_verdict}
+use Rattle.bone_check.specs.Verdicts.{sat_verdict}
 use Rattle.bone_check.specs.ProofFeed.{ReadsProof}
-use Rattle.bone_check.specs.Steps.Parts.{unsat_on, sat_on, ChecksRest}
-use Rattle.bone_check.specs.Steps.Evidence.{ReadsEvidence, JudgesEvidence}
-use Rattle.bone_check.proofs.Reaching.{has_empty_told}
-use Rattle.bone_check.proofs.Witnessed.{stops, goes_on}
-use Rattle.bone_check.proofs.Concluded.{proof_ends, proof_fails, proof_decides, evidence_ends, both_decide, no_empty, some_empty, evidence_judged, evidence_is_read}
-use Rattle.bone_check.specs.Tests.{◌then◌, each_from}
-use Rattle.bone_check.specs.Proving.{unit_fault}
+use Rattle.bone_check.specs.Steps.Parts.{sat_on, ChecksRest}
+use Rattle.bone_check.specs.Steps.Evidence.{ReadsEvidence}
+use Rattle.bone_check.proofs.Witnessed.{stops}
+use Rattle.bone_check.proofs.Concluded.{proof_ends, proof_fails, proof_decides, evidence_ends, evidence_judged, evidence_is_read}
+use Rattle.bone_check.specs.Tests.{◌then◌}
 use Rattle.bone_check.specs.Verdicts.{evidence_verdict}
-use Rattle.bone_check.specs.Steps.Evidence.{reading_told}
 use Rattle.bone_check.proofs.check.check_sat.Goals as goal
 
 pub returns-in-Err : goal.returns-in-Err

@@ -1,4 +1,4 @@
-use Rattle.std.proofs.Common.{◌≡◌, ◌∙◌, ◌≤◌, ◌<◌, ℕ, length, replicate, false, sym, ap, arith}
+use Rattle.std.proofs.Common.{◌≡◌, ◌∙◌, ℕ, length, replicate, false, ap, arith}
 use Rattle.std.proofs.lemmas.List.{length-replicate}
 use Rattle.bone_check.proofs.Covered.{marks_cover}
 use Rattle.bone_check.proofs.cover.judge_cover.Goals as goal

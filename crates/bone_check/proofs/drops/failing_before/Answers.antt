@@ -1,12 +1,9 @@
-use Rattle.std.proofs.Common.{◌≡◌, ◌∙◌, ◌+◌, ◌<◌, ℕ, IsTrue, length, sym, ap, subst, arith}
-use Rattle.std.specs.Prelude.{slice_get}
-use Rattle.witness_text.specs.declared.line.WitnessLine.{WitnessLine}
+use Rattle.std.proofs.Common.{◌≡◌, ◌∙◌, ◌+◌, ℕ, IsTrue, sym, ap, subst, arith}
 use Rattle.witness_text.specs.Models.{model_in}
 use Rattle.cnf_core.specs.Literals.{Assignment}
 use Rattle.cnf_core.specs.Formulas.{IsModel}
-use Rattle.flip_literals.specs.Critical.{MarksCritical}
 use Rattle.bone_check.specs.Witnessing.{is_against}
-use Rattle.bone_check.specs.Steps.Dropping.{IsNext, link}
+use Rattle.bone_check.specs.Steps.Dropping.{IsNext}
 use Rattle.bone_check.proofs.Dropped.{pass_next}
 use Rattle.bone_check.proofs.drops.failing_before.Goals as goal
 

@@ -1,4 +1,4 @@
-use Rattle.std.proofs.Common.{◌≡◌, ◌∙◌, ◌+◌, ◌<◌, ◌≤◌, ℕ, length, sym, ap, subst, arith, get_or}
+use Rattle.std.proofs.Common.{◌≡◌, ◌∙◌, ◌+◌, ℕ, length, sym, ap, arith}
 use Rattle.bone_check.specs.declared.verdict.Reason.TheVariants.{NotAgainst}
 use Rattle.bone_check.specs.declared.verdict.Verdict.TheVariants.{NotVerified}
 use Rattle.bone_check.proofs.Dropped.{drops_pass, drops_fail_at}

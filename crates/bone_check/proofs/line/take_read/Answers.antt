@@ -1,4 +1,4 @@
-use Rattle.std.proofs.Common.{◌≡◌, sym, subst, Result, Ok, Err}
+use Rattle.std.proofs.Common.{sym, subst, Result, Err}
 use Rattle.lrat_checker.specs.declared.refused.Refused.{Refused}
 use Rattle.lrat_checker.specs.Checking.{Answers}
 use Rattle.bone_check.specs.declared.line.Untaken.{Untaken}

@@ -1,17 +1,14 @@
-use Rattle.std.proofs.Common.{◌≡◌, ◌∙◌, ℕ, ◌+◌, ◌<◌, ◌≤◌, ◌^◌, Bool, true, false, List, [], ◌∷◌, ◌++◌, Result, Ok, Err, length, refl, sym, ap, subst, arith}
+use Rattle.std.proofs.Common.{◌≡◌, ◌∙◌, ◌+◌, ◌≤◌, ◌^◌, Bool, true, false, [], ◌∷◌, ◌++◌, Result, Ok, Err, length, refl, sym, ap, subst, arith}
 use Rattle.std.proofs.lemmas.List.{length_push}
-use Rattle.bone_desk.specs.Told.{Told}
-use Rattle.text_lines.specs.Lines as text
 use Rattle.text_lines.specs.Feeds.{Came}
-use Rattle.text_lines.specs.Progress.{HasRead, IsWhole, Answered}
+use Rattle.text_lines.specs.Progress.{Answered}
 use Rattle.text_lines.specs.declared.feed.FeedEnd.{FeedEnd}
-use Rattle.lrat_lines.specs.declared.line.Line.{Line}
 use Rattle.bone_check.specs.declared.verdict.CheckEnd.{CheckEnd}
 use Rattle.bone_check.specs.declared.line.Untaken.{Untaken}
 use Rattle.bone_check.specs.declared.proof.ProofEnd.{ProofEnd}
 use Rattle.bone_check.specs.ProofFeed.{proof_limit, ProofSays}
 use Rattle.bone_check.specs.Steps.Taking.{TextSays, Leads}
-use Rattle.bone_check.proofs.Proved.{IsChecking, read_count, checking_next, taken_whole, feed_ended, line_ended}
+use Rattle.bone_check.proofs.Proved.{read_count, checking_next, taken_whole, feed_ended, line_ended}
 use Rattle.bone_check.proofs.proof.check_proof.Goals as goal
 
 pub loop-more-init : goal.loop-more-init
@@ -98,8 +95,8 @@ loop-more-smaller g c =
     let low : c.loop-more.line + 1 ≤ 2 ^ 45 = omega (arith, count, one, counted) in
     omega (arith, low)
 
-pub returns-in-Err-take_line : goal.returns-in-Err-take_line
-returns-in-Err-take_line g c =
+pub returns-in-Err-take_next : goal.returns-in-Err-take_next
+returns-in-Err-take_next g c =
     let F = c.args.formula.now in
     let start = g.D.Desk.told c.args.desk.now in
     let now = g.D.Desk.told c.advance.new.desk in
@@ -112,14 +109,13 @@ returns-in-Err-take_line g c =
     let step = c.advance.ensures.advanced proof_limit start came done is.read in
     let result : c.advance.result ≡ Ok true = c.in-Ok.is ∙ ap (λ (b : Bool). Ok b) c.if-not-more.false in
     let read = subst (λ (r : Result Bool FeedEnd). Answered proof_limit start now p (came ++ step.more) done r) result step.answer in
-    let told = c.take_line.ensures F taken is.stands in
-    let line = subst (λ (bytes : List ℕ). TextSays F taken bytes c.take_line.new.checker c.take_line.result) c.bytes.ensures told in
-    let says = subst (λ (r : Result (Unit {0}) Untaken). TextSays F taken p.line.bytes c.take_line.new.checker r) c.in-Err-take_line.is line in
+    let line = c.take_next.ensures.says F taken is.stands in
+    let says = subst (λ (r : Result (Unit {0}) Untaken). TextSays F taken p.line.bytes c.take_next.new.checker r) c.in-Err-take_next.is line in
     record {
       text = came ++ step.more;
       came = subst (λ f. Came f start now (came ++ step.more)) on step.came;
       answer = subst (λ (r : Result ProofEnd CheckEnd). ProofSays F start now (came ++ step.more) r) (sym c.untaken_at.ensures)
-          (line_ended F start now p c.take_line.new.checker c.loop-more.line (came ++ step.more) done taken c.in-Err-take_line.untaken
+          (line_ended F start now p c.take_next.new.checker c.loop-more.line (came ++ step.more) done taken c.in-Err-take_next.untaken
           is.so_far is.counted read on says);
     }
 
@@ -137,13 +133,12 @@ loop-more-preserved g c =
     let step = c.advance.ensures.advanced proof_limit start came done is.read in
     let result : c.advance.result ≡ Ok true = c.in-Ok.is ∙ ap (λ (b : Bool). Ok b) c.if-not-more.false in
     let read = subst (λ (r : Result Bool FeedEnd). Answered proof_limit start now p (came ++ step.more) done r) result step.answer in
-    let told = c.take_line.ensures F taken is.stands in
-    let line = subst (λ (bytes : List ℕ). TextSays F taken bytes c.take_line.new.checker c.take_line.result) c.bytes.ensures told in
-    let leads : Leads F taken p.line.bytes c.take_line.new.checker =
-    subst (λ (r : Result (Unit {0}) Untaken). TextSays F taken p.line.bytes c.take_line.new.checker r) c.in_default.is line in (
+    let line = c.take_next.ensures.says F taken is.stands in
+    let leads : Leads F taken p.line.bytes c.take_next.new.checker =
+    subst (λ (r : Result (Unit {0}) Untaken). TextSays F taken p.line.bytes c.take_next.new.checker r) c.in_default.is line in (
       came ++ step.more,
       done ++ p.line ∷ [],
       leads.after,
-      checking_next F start now p c.loop-more.checker c.take_line.new.checker c.loop-more.line (came ++ step.more) done taken leads.after
+      checking_next F start now p c.loop-more.checker c.take_next.new.checker c.loop-more.line (came ++ step.more) done taken leads.after
           is.so_far is.counted read on leads.leads leads.stands,
     )

@@ -1,7 +1,6 @@
-use Rattle.std.proofs.Common.{◌≡◌, ◌∙◌, sym, List, Option, Some, None}
-use Rattle.lrat_lines.specs.declared.line.Line.{Line}
+use Rattle.std.proofs.Common.{◌∙◌, sym}
 use Rattle.bone_check.specs.Proving.{unit_fault}
-use Rattle.bone_check.proofs.TestLemmas.{each_next, each_stop, each_all}
+use Rattle.bone_check.proofs.TestLemmas.{each_next, each_stop}
 use Rattle.bone_check.proofs.units.judge_units.Goals as goal
 
 pub returns-in-Some : goal.returns-in-Some

@@ -1,4 +1,4 @@
-use Rattle.std.proofs.Common.{◌≡◌, ◌∙◌, sym, ap, ℕ, length, List, subst}
+use Rattle.std.proofs.Common.{sym, length, List, subst}
 use Rattle.witness_text.specs.declared.line.WitnessLine.{WitnessLine}
 use Rattle.bone_check.specs.Steps.Dropping.{AreNamed, AreTheirs}
 use Rattle.bone_check.proofs.Witnessed.{are_named, are_theirs}

@@ -1,10 +1,5 @@
-use Rattle.std.proofs.Common.{◌≡◌, ◌≢◌, ◌∙◌, ◌+◌, ℕ, length, sym, ap}
-use Rattle.bone_check.specs.declared.verdict.Verdict.{Verdict}
-use Rattle.bone_check.specs.Tests.{◌then◌, each_from}
-use Rattle.bone_check.specs.Witnessing.{some_model, model_fault}
-use Rattle.bone_check.specs.Steps.Verified.{lines_verdict}
-use Rattle.bone_check.specs.Steps.Dropping.{HaveValues}
-use Rattle.bone_check.proofs.Witnessed.{verified_of, stops, goes_on, no_model_first, some_model_first, have_values, are_models}
+use Rattle.std.proofs.Common.{◌∙◌, sym}
+use Rattle.bone_check.proofs.Witnessed.{verified_of, are_models}
 use Rattle.bone_check.proofs.witness.judge_witness.Goals as goal
 
 pub judge_lines-requires-clause-models : goal.judge_lines-requires-clause-models

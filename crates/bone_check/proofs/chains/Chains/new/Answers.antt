@@ -1,7 +1,7 @@
-use Rattle.std.proofs.Common.{◌≡◌, ◌∙◌, ◌+◌, ◌-◌, ◌<◌, ◌≤◌, ℕ, length, sym, ap, subst, arith, List}
-use Rattle.std.specs.Prelude.{slice_get, slice_set}
+use Rattle.std.proofs.Common.{◌≡◌, ◌∙◌, ◌+◌, ◌-◌, ℕ, sym, ap, subst, arith, List}
+use Rattle.std.specs.Prelude.{slice_set}
 use Rattle.bone_check.specs.Steps.Dropping.{IsChained, Links, link}
-use Rattle.bone_check.proofs.Chained.{chained_more, linked}
+use Rattle.bone_check.proofs.Chained.{chained_more}
 use Rattle.bone_check.proofs.chains.Chains.new.Goals as goal
 
 pub loop-place-preserved : goal.loop-place-preserved
