@@ -10,6 +10,8 @@ mod job;
 mod note;
 mod open_part;
 mod reply;
+mod sample_text;
+mod sampling;
 mod serve;
 mod task;
 #[cfg(test)]

@@ -14,6 +14,7 @@ use crate::ending::Ending;
 use crate::extract::{extract, extract_alone};
 use crate::job::{Job, read_words};
 use crate::note::write_note;
+use crate::sampling::{sample, sample_alone};
 use bone_desk::{Desk, Port};
 use chooser_core::Chooser;
 use lrat_log::laws::no_log_is_full;
@@ -119,7 +120,7 @@ fn run_threads<R: Threads + Sync, D: Desk, G: Gate>(
     match read_words(alloc, words) {
         Ok(Job::Extract(extraction)) => extract(rt, alloc, &extraction, desk, choosers, gate),
         Ok(Job::Check(checking)) => check(alloc, &checking, desk),
-        Ok(Job::Sample) => Ending::NotBuilt,
+        Ok(Job::Sample(sampling)) => sample(rt, alloc, sampling, desk, choosers, gate),
         Err(ending) => ending,
     }
 }
@@ -137,7 +138,7 @@ fn run_alone<D: Desk>(
     match read_words(alloc, words) {
         Ok(Job::Extract(extraction)) => extract_alone(alloc, &extraction, desk, choosers),
         Ok(Job::Check(checking)) => check(alloc, &checking, desk),
-        Ok(Job::Sample) => Ending::NotBuilt,
+        Ok(Job::Sample(sampling)) => sample_alone(alloc, sampling, desk, choosers),
         Err(ending) => ending,
     }
 }
