@@ -1,6 +1,6 @@
 -- A run that ends before its formula is there: an opening failed, or the reading of the text.
 use Rattle.std.proofs.Common.{◌≡◌, ◌≢◌, ◌<◌, ◌≤◌, ◌-◌, ◌^◌, ◌++◌, ℕ, List, [], length, true, false, refl, true≢false, sym, ap, ◌∙◌, subst, arith, inl}
-use Rattle.std.specs.Prelude.{Option, Some, None, Result, Ok, Err, OnOk, OnErr, IsTrue, is_err, is_some, option_map}
+use Rattle.std.specs.Prelude.{Option, Some, None, Result, Ok, Err, OnOk, OnErr, IfErr, IsTrue, is_err, is_some, option_map}
 use Rattle.bone_desk.specs.declared.desk.Feed.{Feed}
 use Rattle.bone_desk.specs.declared.desk.Feed.TheVariants as feed
 use Rattle.bone_desk.specs.declared.desk.Port.{Port}
@@ -33,6 +33,21 @@ unopened_feed may f a b c used first then rose = (used, fails_to_open may (OpenF
 pub unopened_port : (may : Acts) (p : Port) (a b c : Told) → IsTrue (may (OpenPort p)) → Opens may a b → Opens may b c
     → Rose (OpenPort p) b c → IsUnopened may (Failed (OpenPort p)) a c
 unopened_port may p a b c used first then rose = (used, fails_to_open may (OpenPort p) a b c first then rose)
+
+-- an opening fails after others
+pub unopened_later : (may : Acts) (ending : Ending) (a b c : Told) → Opens may a b → Opens may b c → IsUnopened may ending b c
+    → IsUnopened may ending a c
+unopened_later may (Failed (OpenFeed f)) a b c first then is =
+    (is.0, fails_to_open may (OpenFeed f) a b c first then is.1.rose)
+unopened_later may (Failed (OpenPort p)) a b c first then is =
+    (is.0, fails_to_open may (OpenPort p) a b c first then is.1.rose)
+unopened_later may ending a b c first then is = absurd is
+
+pub unopened_at_err : {T : Type 0} (may : Acts) (act : Act) (r : Result T Ending) (a b c : Told) → Opens may a b → Opens may b c
+    → IsTrue (may act) → IfErr r (λ ending. (any : Acts) → any act ≡ true → IsUnopened any ending b c)
+    → IfErr r (λ ending. IsUnopened may ending a c)
+unopened_at_err may act (Ok x) a b c first then used said = tt
+unopened_at_err may act (Err ending) a b c first then used said = unopened_later may ending a b c first then (said may used)
 
 -- ---- the text
 

@@ -1,6 +1,5 @@
 //! The command `check`: judges an answer, a proof and a witness from a text alone.
-ghost use Rattle.std.specs.Prelude.{◌≡◌, ℕ, Some, IsSome, is_some, IfErr, OnErr};
-ghost use Rattle.bone_desk.specs.Told.{Rose};
+ghost use Rattle.std.specs.Prelude.{◌≡◌, ℕ, true, Some, IfErr};
 ghost use Rattle.bone_words.specs.Settings.{to_check};
 ghost use Rattle.backbone_main.specs.Causes.{Acts};
 ghost use Rattle.backbone_main.specs.Checking.{check_uses};
@@ -10,6 +9,7 @@ ghost use Rattle.backbone_main.specs.Steps.Judging.{IsJudged, IsTold};
 use crate::ending::Ending;
 use crate::text::read_text;
 use crate::verdict_text::write_verdict;
+use bone_check::laws::verified_answer_is_right;
 use bone_check::{CheckEnd, Verdict, check_all};
 use bone_desk::{Act, Desk, Failed, Feed, Port};
 use cnf_core::Formula;
@@ -31,6 +31,7 @@ pub fn check<D: Desk>(alloc: Global, checking: &Checking, desk: &mut D) -> Endin
     if let Err(ending) = open_feeds(checking, desk) {
         return ending;
     }
+    verified_answer_is_right();
     match read_text(alloc, desk) {
         Ok(formula) => judge(alloc, &formula, checking.witness.is_some(), desk),
         Err(ending) => ending,
@@ -43,31 +44,30 @@ fn open_feeds<D: Desk>(checking: &Checking, desk: &mut D) -> Result<(), Ending>
     ensures refused { IfErr result (λ ending. IsUnopened (check_uses (asked_check checking.now)) ending
         (D.told desk.old) (D.told desk.new)) }
 {
-    let named = [
-        (Feed::Text, &checking.text),
-        (Feed::Answer, &checking.answer),
-        (Feed::Proof, &checking.proof),
-    ];
-    for (feed, name) in named {
-        if desk.open_feed(feed, name.as_str()).is_err() {
-            return Err(Ending::Failed(Act::OpenFeed(feed)));
-        }
+    if let Err(ending) = open_feed(Feed::Text, checking.text.as_str(), desk) {
+        return Err(ending);
     }
-    if open_witness(&checking.witness, desk).is_err() {
-        return Err(Ending::Failed(Act::OpenFeed(Feed::Witness)));
+    if let Err(ending) = open_feed(Feed::Answer, checking.answer.as_str(), desk) {
+        return Err(ending);
     }
-    Ok(())
+    if let Err(ending) = open_feed(Feed::Proof, checking.proof.as_str(), desk) {
+        return Err(ending);
+    }
+    match &checking.witness {
+        Some(name) => open_feed(Feed::Witness, name.as_str(), desk),
+        None => Ok(()),
+    }
 }
 
-/// Opens the witness where it is named.
-fn open_witness<D: Desk>(name: &Option<String>, desk: &mut D) -> Result<(), Failed>
-    ensures opens { (may : Acts) → may (Act.OpenFeed Feed.Witness) ≡ is_some name.now → Opens may (D.told desk.old) (D.told desk.new) }
-    ensures named { OnErr result (IsSome name.now) }
-    ensures cause { OnErr result (Rose (Act.OpenFeed Feed.Witness) (D.told desk.old) (D.told desk.new)) }
+/// Opens a feed.
+fn open_feed<D: Desk>(feed: Feed, name: &str, desk: &mut D) -> Result<(), Ending>
+    ensures opens { (may : Acts) → may (Act.OpenFeed feed) ≡ true → Opens may (D.told desk.old) (D.told desk.new) }
+    ensures refused { IfErr result (λ ending. (may : Acts) → may (Act.OpenFeed feed) ≡ true
+        → IsUnopened may ending (D.told desk.old) (D.told desk.new)) }
 {
-    match name {
-        Some(name) => desk.open_feed(Feed::Witness, name.as_str()),
-        None => Ok(()),
+    match desk.open_feed(feed, name) {
+        Ok(()) => Ok(()),
+        Err(Failed) => Err(Ending::Failed(Act::OpenFeed(feed))),
     }
 }
 

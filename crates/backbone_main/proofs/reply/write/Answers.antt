@@ -9,10 +9,10 @@ use Rattle.backbone_main.proofs.Replies.{own_answer, own_proof, own_witness, gav
 use Rattle.backbone_main.proofs.reply.write.Goals as goal
 
 pub returns-in-Err-clause-own : goal.returns-in-Err-clause-own
-returns-in-Err-clause-own g c = λ wanted is.
-    own_proof wanted c.args.reply.now c.ending_of.result (g.D.Desk.told c.args.desk.now) (g.D.Desk.told c.put_proof.new.desk) is
+returns-in-Err-clause-own g c = λ may is.
+    own_proof may c.args.reply.now c.ending_of.result (g.D.Desk.told c.args.desk.now) (g.D.Desk.told c.put_proof.new.desk) is
     c.put_proof.ensures.only c.put_proof.ensures.none
-    (c.ending_of.ensures.allowed wanted is.built (is.proof c.in-Err.ensures.some))
+    (c.ending_of.ensures.own may (is.proof c.in-Err.ensures.some))
 
 pub returns-then-is_err-clause-writes : goal.returns-then-is_err-clause-writes
 returns-then-is_err-clause-writes g c =
@@ -28,8 +28,8 @@ returns-then-is_err-clause-writes g c =
     (at_err c.put_drops.result failed c.put_drops.ensures.cause))
 
 pub returns-then-is_err-clause-own : goal.returns-then-is_err-clause-own
-returns-then-is_err-clause-own g c = λ wanted is.
-    own_witness wanted c.args.reply.now (g.D.Desk.told c.args.desk.now) (g.D.Desk.told c.put_proof.new.desk)
+returns-then-is_err-clause-own g c = λ may is.
+    own_witness may c.args.reply.now (g.D.Desk.told c.args.desk.now) (g.D.Desk.told c.put_proof.new.desk)
     (g.D.Desk.told c.put_drops.new.desk) is
     c.put_proof.ensures.only c.put_proof.ensures.none c.put_drops.ensures.only c.put_drops.ensures.none
     (at_err c.put_drops.result (sym c.is_err.ensures.value ∙ c.if-is_err.true) c.put_drops.ensures.some)
@@ -50,11 +50,11 @@ returns-then-is_err-2-clause-writes g c =
     (at_err c.write_answer.result failed c.write_answer.ensures.cause))
 
 pub returns-then-is_err-2-clause-own : goal.returns-then-is_err-2-clause-own
-returns-then-is_err-2-clause-own g c = λ wanted is.
-    own_answer wanted c.args.reply.now (Failed (Write port.Answer)) (g.D.Desk.told c.args.desk.now) (g.D.Desk.told c.put_proof.new.desk)
+returns-then-is_err-2-clause-own g c = λ may is.
+    own_answer may c.args.reply.now (Failed (Write port.Answer)) (g.D.Desk.told c.args.desk.now) (g.D.Desk.told c.put_proof.new.desk)
     (g.D.Desk.told c.put_drops.new.desk) (g.D.Desk.told c.write_answer.new.desk) is
     c.put_proof.ensures.only c.put_proof.ensures.none c.put_drops.ensures.only c.put_drops.ensures.none c.write_answer.ensures.only
-    (record { built = is.built; used = is.built; no_note = λ same. absurd (cc) })
+    (record { used = is.answer; no_note = λ same. absurd (cc) })
 
 pub returns-clause-writes : goal.returns-clause-writes
 returns-clause-writes g c =
@@ -74,8 +74,8 @@ returns-clause-writes g c =
     )
 
 pub returns-clause-own : goal.returns-clause-own
-returns-clause-own g c = λ wanted is.
-    own_answer wanted c.args.reply.now c.args.reply.now.ending (g.D.Desk.told c.args.desk.now) (g.D.Desk.told c.put_proof.new.desk)
+returns-clause-own g c = λ may is.
+    own_answer may c.args.reply.now c.args.reply.now.ending (g.D.Desk.told c.args.desk.now) (g.D.Desk.told c.put_proof.new.desk)
     (g.D.Desk.told c.put_drops.new.desk) (g.D.Desk.told c.write_answer.new.desk) is
     c.put_proof.ensures.only c.put_proof.ensures.none c.put_drops.ensures.only c.put_drops.ensures.none c.write_answer.ensures.only
-    is.allowed
+    is.own
