@@ -36,7 +36,7 @@ pub enum Finding {
     Nothing,
 }
 
-/// What is told of a backbone, with literals of at most 2^20 variables, each once.
+/// What is told of a backbone of so many variables. It has at most 2^20 literals, of variables up to 2^20.
 pub fn summary_of(vars: u32, lits: &[Lit]) -> Summary
     requires few { length lits.now ≤ 2 ^ 20 }
     requires within { AreWithin (2 ^ 20) lits.now }
@@ -51,9 +51,15 @@ pub fn summary_of(vars: u32, lits: &[Lit]) -> Summary
 }
 
 /// Writes the text of a sample to the Answer port, and takes no memory. At a fault the port has a front of the text.
-pub fn write_finding<D: Desk>(desk: &mut D, sampling: Sampling, finding: Finding) -> Result<(), Failed>
-    ensures given { OnOk result (Gave Port.Answer (finding_text (asked_sample sampling) finding) (D.told desk.old) (D.told desk.new)) }
-    ensures front { OnErr result (GaveFront Port.Answer (finding_text (asked_sample sampling) finding) (D.told desk.old) (D.told desk.new)) }
+pub fn write_finding<D: Desk>(
+    desk: &mut D,
+    sampling: Sampling,
+    finding: Finding,
+) -> Result<(), Failed>
+    ensures given { OnOk result (Gave Port.Answer (finding_text (asked_sample sampling) finding)
+        (D.told desk.old) (D.told desk.new)) }
+    ensures front { OnErr result (GaveFront Port.Answer (finding_text (asked_sample sampling) finding)
+        (D.told desk.old) (D.told desk.new)) }
     ensures only { WritesOnly Port.Answer (D.told desk.old) (D.told desk.new) }
     ensures cause { OnErr result (Rose (Act.Write Port.Answer) (D.told desk.old) (D.told desk.new)) }
 {
@@ -62,21 +68,23 @@ pub fn write_finding<D: Desk>(desk: &mut D, sampling: Sampling, finding: Finding
     buffer.flush(desk)
 }
 
-/// All lines.
+/// All lines of the text.
 fn push_text<D: Desk>(
     desk: &mut D,
     buffer: &mut PortBuffer,
     sampling: Sampling,
     finding: Finding,
 ) -> Result<(), Failed>
-    ensures ok { OnOk result (Pushed (finding_text (asked_sample sampling) finding) buffer.old buffer.new (D.told desk.old) (D.told desk.new)) }
-    ensures err { OnErr result (CutOff (finding_text (asked_sample sampling) finding) buffer.old (D.told desk.old) (D.told desk.new)) }
+    ensures ok { OnOk result (Pushed (finding_text (asked_sample sampling) finding) buffer.old buffer.new
+        (D.told desk.old) (D.told desk.new)) }
+    ensures err { OnErr result (CutOff (finding_text (asked_sample sampling) finding) buffer.old
+        (D.told desk.old) (D.told desk.new)) }
 {
     push_numbers(desk, buffer, sampling)?;
     push_lines(desk, buffer, finding)
 }
 
-/// The line of the numbers.
+/// The first line, with the numbers that make the formula.
 fn push_numbers<D: Desk>(
     desk: &mut D,
     buffer: &mut PortBuffer,
@@ -91,7 +99,7 @@ fn push_numbers<D: Desk>(
     buffer.push(desk, b"\n")
 }
 
-/// The lines behind it.
+/// The lines behind the first one.
 fn push_lines<D: Desk>(
     desk: &mut D,
     buffer: &mut PortBuffer,
@@ -122,7 +130,7 @@ fn push_count<D: Desk>(
     push_number(desk, buffer, words, u64::from(count))
 }
 
-/// The lines where the backbone is known.
+/// The verdict and the summary, where the backbone is known.
 fn push_summary<D: Desk>(
     desk: &mut D,
     buffer: &mut PortBuffer,

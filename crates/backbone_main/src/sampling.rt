@@ -78,7 +78,12 @@ fn formula_of(alloc: Global, sampling: Sampling) -> Result<Formula, NoMemory>
     ensures value { IfOk result (λ F. F ≡ formula_of (asked_sample sampling)) }
     ensures model { IfOk result HasModel }
 {
-    planted(alloc, sampling.vars, sampling.clauses, sampling.settings.seed)
+    planted(
+        alloc,
+        sampling.vars,
+        sampling.clauses,
+        sampling.settings.seed,
+    )
 }
 
 /// Writes what the outcome tells of a sample.

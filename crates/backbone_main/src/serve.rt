@@ -34,11 +34,11 @@ use worker_loop::Gate;
 ///
 /// | Status | What happened |
 /// |---|---|
-/// | 0 | `check`: the answer, the proof and the witness pass all tests, and that was written; `sample`: the summary of the backbone was written |
+/// | 0 | `check`: the answer, the proof and the witness pass all tests; `sample`: the backbone is known. That was written |
 /// | 1 | `check`: the first test that fails was written, and its place |
 /// | 10 | `extract`: the backbone was written: its literals whose variables are shown; before it the files that are named |
 /// | 20 | `extract`: the formula has no model, and that was written; before it the proof, where it is named, and no witness |
-/// | 30 | every worker spent its budget. `extract` wrote a part of the backbone, with its evidence, and the literals that are still open, `sample` that a part is known |
+/// | 30 | every worker spent its budget: `extract` wrote a part of the backbone, with its evidence, and what is still open |
 /// | 31 | no model was found within the budget, and that nothing is known was written, without evidence |
 /// | 40 | there was too little memory; nothing was written, or by `extract` what was known of the backbone then, or a front of the proof |
 /// | 50 | the text means no formula; nothing was written |

@@ -52,12 +52,24 @@ fn a_sample_tells_how_large_its_backbone_is(rt: HostRuntime) -> Result<(), Fail>
 fn a_spent_budget_is_told_without_a_summary(rt: HostRuntime) -> Result<(), Fail> {
     let rows: [(&[&str], u8, &[u8]); 2] = [
         (
-            &["sample", "--vars=50", "--clauses=200", "--seed=3", "--budget=1"],
+            &[
+                "sample",
+                "--vars=50",
+                "--clauses=200",
+                "--seed=3",
+                "--budget=1",
+            ],
             31,
             b"sample vars 50 clauses 200 seed 3\ns UNKNOWN\n",
         ),
         (
-            &["sample", "--vars=50", "--clauses=200", "--seed=3", "--budget=5"],
+            &[
+                "sample",
+                "--vars=50",
+                "--clauses=200",
+                "--seed=3",
+                "--budget=5",
+            ],
             30,
             b"sample vars 50 clauses 200 seed 3\ns PARTIAL\n",
         ),
@@ -79,7 +91,10 @@ fn a_failed_write_leaves_a_front_of_the_text(rt: HostRuntime) -> Result<(), Fail
             let (number, desk) = run_text(&rt, rt.alloc(), &list, b"", 5, fail, how)?;
             assert_eq!(rt; number, 61);
             assert_eq!(rt; desk.out_answer.as_slice(), given);
-            assert_eq!(rt; desk.out_notes.as_slice(), b"error: write failed: answer\n".as_slice());
+            assert_eq!(rt;
+                desk.out_notes.as_slice(),
+                b"error: write failed: answer\n".as_slice()
+            );
         }
     }
     Ok(())

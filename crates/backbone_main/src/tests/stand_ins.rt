@@ -117,7 +117,9 @@ pub enum Kind {
     /// At the even places what conflicts met last, at the others the least variable without a value.
     Mixed,
     /// The least variable without a value; how often the first of them was asked is told.
-    Watched { asked: Arc<AtomicU64> },
+    Watched {
+        asked: Arc<AtomicU64>,
+    },
     /// Always this number, counted where they are dropped.
     Stubborn {
         number: u32,

@@ -20,7 +20,8 @@ whole_given {p} x {u} {v} {a} {b} c new pushed given =
 pub returns-clause-given : goal.returns-clause-given
 returns-clause-given g c =
     on_ok_weaker c.flush.result
-    (whole_given (finding_text (asked_sample c.args.sampling) c.args.finding) (g.D.Desk.told c.flush.new.desk) c.new-buffer.ensures c.in_ok-push_text.ensures.ok)
+    (whole_given (finding_text (asked_sample c.args.sampling) c.args.finding) (g.D.Desk.told c.flush.new.desk)
+    c.new-buffer.ensures c.in_ok-push_text.ensures.ok)
     c.flush.ensures.given
 
 pub returns-clause-front : goal.returns-clause-front
