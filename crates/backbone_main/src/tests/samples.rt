@@ -48,37 +48,28 @@ fn a_sample_tells_how_large_its_backbone_is(rt: HostRuntime) -> Result<(), Fail>
     Ok(())
 }
 
+/// What is told of a sample of fifty variables at this status.
+fn text_at(status: u8) -> &'static [u8] {
+    match status {
+        0 => {
+            b"sample vars 50 clauses 200 seed 3\ns SATISFIABLE\nbackbone 4 of 50, 3 negative, sum 81\n"
+        }
+        30 => b"sample vars 50 clauses 200 seed 3\ns PARTIAL\n",
+        31 => b"sample vars 50 clauses 200 seed 3\ns UNKNOWN\n",
+        _ => b"",
+    }
+}
+
 #[test]
 fn a_spent_budget_is_told_without_a_summary(rt: HostRuntime) -> Result<(), Fail> {
-    let rows: [(&[&str], u8, &[u8]); 2] = [
-        (
-            &[
-                "sample",
-                "--vars=50",
-                "--clauses=200",
-                "--seed=3",
-                "--budget=1",
-            ],
-            31,
-            b"sample vars 50 clauses 200 seed 3\ns UNKNOWN\n",
-        ),
-        (
-            &[
-                "sample",
-                "--vars=50",
-                "--clauses=200",
-                "--seed=3",
-                "--budget=5",
-            ],
-            30,
-            b"sample vars 50 clauses 200 seed 3\ns PARTIAL\n",
-        ),
-    ];
-    for (list, status, answer) in rows {
-        let (number, desk) = run_text(&rt, rt.alloc(), list, b"", 64, 0, How::Alone)?;
-        assert_eq!(rt; number, status);
-        assert_eq!(rt; desk.out_answer.as_slice(), answer);
-        assert!(rt; desk.out_notes.is_empty());
+    let rows = [("--budget=1", false), ("--budget=5", true), ("--budget=25", true)];
+    for (budget, may_be_whole) in rows {
+        let list = ["sample", "--vars=50", "--clauses=200", "--seed=3", budget];
+        for (number, desk) in run_both(&rt, rt.alloc(), &list, b"", 64)? {
+            assert!(rt; number != 0 || may_be_whole);
+            assert_eq!(rt; desk.out_answer.as_slice(), text_at(number));
+            assert!(rt; desk.out_notes.is_empty());
+        }
     }
     Ok(())
 }
