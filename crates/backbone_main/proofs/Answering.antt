@@ -1,8 +1,6 @@
 -- An extraction over a text that is given, and whose cause leaves few statuses.
-use Rattle.std.proofs.Common.{◌≡◌, ◌≢◌, ℕ, ◌<◌, ◌≤◌, ◌-◌, ◌^◌, List, [], ◌∷◌, Some, Ok, Err, refl, sym, ap, ◌∙◌, subst, arith}
+use Rattle.std.proofs.Common.{◌≡◌, ℕ, ◌≤◌, ◌-◌, List, [], ◌∷◌, Some, Ok, Err, refl, ap, subst, arith}
 use Rattle.bone_desk.specs.declared.desk.Feed.TheVariants as feed
-use Rattle.bone_desk.specs.declared.desk.Port.{Port}
-use Rattle.bone_desk.specs.declared.desk.Port.TheVariants as port
 use Rattle.bone_desk.specs.declared.desk.Act.{Act}
 use Rattle.bone_desk.specs.declared.desk.Act.TheVariants.{OpenFeed, OpenPort, Read, Write}
 use Rattle.bone_desk.specs.Told.{Told, Rose}
@@ -141,7 +139,7 @@ pub extracts : (w : ℕ) (e : Extraction) (ending : Ending) (number : ℕ) (old 
 extracts w e ending number old new law is_code is own =
     let may = extract_uses e in
     let cause = λ (text : List ℕ) (given : IsGiven may text old new).
-        caused w e.budget (files_of e) may ending old new text is own given in
+    caused w e.budget (files_of e) may ending old new text is own given in
     record {
       long = λ text given too_long. at_code (51 ∷ 40 ∷ []) number ending is_code (long_code ending old new text (cause text given) too_long);
       bad = λ text fault given means. at_code (50 ∷ 40 ∷ []) number ending is_code

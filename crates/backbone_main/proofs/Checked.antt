@@ -1,12 +1,12 @@
 -- A check past its note, and which statuses its causes leave.
-use Rattle.std.proofs.Common.{◌≡◌, ◌≢◌, ℕ, ◌<◌, ◌≤◌, ◌-◌, ◌^◌, ◌++◌, Bool, true, false, if◌then◌else◌, List, [], ◌∷◌, length, refl, true≢false, sym, ap, ◌∙◌, subst, arith}
-use Rattle.std.specs.Prelude.{Option, Some, None, Result, Ok, Err, IsTrue, option_map, unwrap_or}
+use Rattle.std.proofs.Common.{◌≡◌, ◌≢◌, ℕ, ◌-◌, ◌++◌, Bool, if◌then◌else◌, List, [], ◌∷◌, refl, sym, ap, ◌∙◌, arith}
+use Rattle.std.specs.Prelude.{Option, Some, None, Ok, Err, IsTrue, option_map, unwrap_or}
 use Rattle.bone_desk.specs.declared.desk.Feed.{Feed}
 use Rattle.bone_desk.specs.declared.desk.Feed.TheVariants as feed
 use Rattle.bone_desk.specs.declared.desk.Port.TheVariants as port
 use Rattle.bone_desk.specs.declared.desk.Act.{Act}
-use Rattle.bone_desk.specs.declared.desk.Act.TheVariants.{OpenFeed, OpenPort, Read, Write}
-use Rattle.bone_desk.specs.Told.{Told, Rose, WritesOnly, Took}
+use Rattle.bone_desk.specs.declared.desk.Act.TheVariants.{OpenFeed, Read, Write}
+use Rattle.bone_desk.specs.Told.{Told, WritesOnly}
 use Rattle.cnf_core.specs.Formulas.{Cnf}
 use Rattle.dimacs_reader.specs.declared.fault.Fault.{Fault}
 use Rattle.dimacs_reader.specs.Feeds.{IsTooLong}
@@ -14,7 +14,7 @@ use Rattle.bone_words.specs.Settings.{Checking}
 use Rattle.bone_check.specs.declared.verdict.Verdict.{Verdict}
 use Rattle.bone_check.specs.Verdicts.{verdict_of}
 use Rattle.bone_check.specs.Checks as feeds
-use Rattle.bone_check.specs.Checks.{AllLeft, limit_of, verdict_on}
+use Rattle.bone_check.specs.Checks.{AllLeft, verdict_on}
 use Rattle.backbone_main.specs.declared.ending.Ending.{Ending}
 use Rattle.backbone_main.specs.declared.ending.Ending.TheVariants.{Judged, OutOfMemory, BadText, TooLong, Failed}
 use Rattle.backbone_main.specs.Causes.{IsGiven, IsOneOf, IsTaken, Means, ReadsAndWrites, ReadsText}
@@ -183,10 +183,6 @@ bad_code ending text fault is bad = absurd is
 
 -- ---- all texts are given
 
-text_given : (c : Checking) (texts : feeds.Texts) (old new : Told) → AreGiven c texts old new → IsGiven (check_uses c) (texts feed.Text) old new
-text_given c texts old new given =
-    record { left = given.left feed.Text; opens = given.opens; reads = given.reads feed.Text refl }
-
 -- what is left of a feed of which this was taken
 abbrev rest_of : Told → feeds.Texts
 rest_of told f = unwrap_or (told.left f) []
@@ -247,7 +243,7 @@ judged_code c texts F (Judged verdict) old new is own given means all =
     let found = meant (texts feed.Text) old new (given.left feed.Text) is.read in
     let formula = same_meaning (texts feed.Text) F is.formula means found in
     let same = given_verdict c texts is.formula verdict old new given is.read is.wrote.judges
-        ∙ ap (λ (G : Cnf). verdict_on G (names_witness c) texts) formula in
+    ∙ ap (λ (G : Cnf). verdict_on G (names_witness c) texts) formula in
     (0, omega arith, ap verdict_code (sym same))
 judged_code c texts F OutOfMemory old new is own given means all = (1, omega arith, refl)
 judged_code c texts F (BadText fault) old new is own given means all =

@@ -1,14 +1,13 @@
 -- The proof of a report: printable, and it reaches each fixed literal.
-use Rattle.std.proofs.Common.{◌≡◌, ℕ, ◌+◌, ◌<◌, Bool, true, false, not, ◌&&◌, IsTrue, List, [], ◌∷◌, ◌++◌, length, All, Contains, refl, sym, ap, ◌∙◌, subst, ⊎_elim, arith, true≢false}
+use Rattle.std.proofs.Common.{◌≡◌, ℕ, ◌<◌, Bool, true, false, IsTrue, List, [], ◌∷◌, length, All, Contains, refl, sym, ap, ◌∙◌, subst, ⊎_elim, arith, true≢false}
 use Rattle.std.specs.Prelude.{flat_map, IfSome, is_some, Option, Some, None, AllPairs}
 use Rattle.std.specs.Bool.{then_some}
-use Rattle.std.specs.List.{list_any, list_all}
 use Rattle.std.proofs.lemmas.List.Elements.{All-contains, All-weaker, Contains-append_right}
 use Rattle.cnf_core.specs.Literals.{Literal, Literals}
 use Rattle.cnf_core.specs.Formulas.{Cnf}
 use Rattle.cnf_core.proofs.Lists.{Contains-head, Contains-cons_cases, Contains-nil, Contains-flat_map, member_of_list_any, passes_of_list_all}
 use Rattle.lrat_lines.specs.declared.line.Line.{Line}
-use Rattle.lrat_lines.specs.declared.line.Line.TheVariants.{Add, Delete}
+use Rattle.lrat_lines.specs.declared.line.Line.TheVariants.{Delete}
 use Rattle.lrat_lines.specs.Sets.{IsSameSet, is_same}
 use Rattle.lrat_lines.specs.Proofs.{added, reached, IsReached}
 use Rattle.lrat_lines.specs.Printed.{proof_text, IsId, IsPrintable}
@@ -16,7 +15,7 @@ use Rattle.lrat_lines.specs.Tidy.{clause_of, hints_of, next_id, IsHint, IsTidy, 
 use Rattle.lrat_lines.proofs.LiteralSets.{is_same-true}
 use Rattle.lrat_lines.proofs.Prefixes.{all_by_each_after}
 use Rattle.lrat_lines.proofs.SameSets.{same_set_itself}
-use Rattle.cert_merge.specs.Trimming.{is_empty, is_just, have_empty, have_unit, HasUnits}
+use Rattle.cert_merge.specs.Trimming.{is_empty, is_just, have_empty, have_unit}
 use Rattle.model_store.specs.Stores.{Store}
 use Rattle.model_store.specs.Witnesses.{IsInRange}
 use Rattle.model_store.specs.declared.witness.Witness.{Witness}

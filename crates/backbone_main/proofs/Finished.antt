@@ -1,21 +1,21 @@
 -- From the parts of an extraction to what was done, and from there past the note.
-use Rattle.std.proofs.Common.{◌≡◌, ◌≢◌, ℕ, ◌<◌, ◌-◌, ◌^◌, ◌++◌, List, [], Ok, refl, sym, ap, ◌∙◌, subst, inl, inr, arith}
-use Rattle.std.specs.Prelude.{Option, Some}
+use Rattle.std.proofs.Common.{◌≡◌, ◌≢◌, ℕ, ◌<◌, ◌-◌, ◌^◌, Ok, refl, sym, ap, ◌∙◌, subst, inl, inr}
+use Rattle.std.specs.Prelude.{Some}
 use Rattle.bone_desk.specs.declared.desk.Feed.{Feed}
 use Rattle.bone_desk.specs.declared.desk.Feed.TheVariants as feed
 use Rattle.bone_desk.specs.declared.desk.Port.{Port}
 use Rattle.bone_desk.specs.declared.desk.Port.TheVariants as port
 use Rattle.bone_desk.specs.declared.desk.Act.{Act}
 use Rattle.bone_desk.specs.declared.desk.Act.TheVariants.{OpenFeed, OpenPort, Read, Write}
-use Rattle.bone_desk.specs.Told.{Told, Rose, WritesOnly}
+use Rattle.bone_desk.specs.Told.{Told, WritesOnly}
 use Rattle.cnf_core.specs.Formulas.{Cnf}
 use Rattle.bone_words.specs.Settings.{Extraction, to_extract}
 use Rattle.backbone_main.specs.declared.task.Files.{Files}
 use Rattle.backbone_main.specs.declared.ending.Ending.{Ending}
 use Rattle.backbone_main.specs.declared.ending.Ending.TheVariants.{Complete, Unsatisfiable, Unfinished, Unknown, OutOfMemory, BadText, TooLong, Failed}
 use Rattle.backbone_main.specs.Causes.{Acts, ReadsAndWrites, ReadsText, WritesNothing}
-use Rattle.backbone_main.specs.Texts.{Texts, TextsSay}
-use Rattle.backbone_main.specs.Extracting.{ExtractAccounts, Fails, GaveAll, IsCutAt, Stops, StopsWhere, WritesAll, extract_uses, files_of}
+use Rattle.backbone_main.specs.Texts.{Texts}
+use Rattle.backbone_main.specs.Extracting.{ExtractAccounts, Fails, IsCutAt, Stops, WritesAll, extract_uses, files_of}
 use Rattle.backbone_main.specs.Steps.Finish.{IsRefused, Runs, TouchesText, WritesOwn}
 use Rattle.backbone_main.specs.Steps.Replies.{AllowsFiles, Finishes}
 use Rattle.backbone_main.proofs.Own.{touches_more, touches_of_text}

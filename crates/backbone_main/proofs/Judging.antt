@@ -5,35 +5,31 @@ use Rattle.bone_desk.specs.declared.desk.Feed.{Feed}
 use Rattle.bone_desk.specs.declared.desk.Feed.TheVariants as feed
 use Rattle.bone_desk.specs.declared.desk.Port.{Port}
 use Rattle.bone_desk.specs.declared.desk.Port.TheVariants as port
-use Rattle.bone_desk.specs.declared.desk.Act.{Act}
 use Rattle.bone_desk.specs.declared.desk.Act.TheVariants.{OpenFeed, OpenPort, Read, Write}
-use Rattle.bone_desk.specs.Told.{Told, Rose, ReadsOnly, WritesOnly, Took, Gave}
+use Rattle.bone_desk.specs.Told.{Told, Rose, ReadsOnly, Took}
 use Rattle.cnf_core.specs.Formulas.{Cnf}
-use Rattle.answer_text.specs.AnswerText.{answer_text}
 use Rattle.bone_words.specs.Settings.{Checking, to_check}
 use Rattle.bone_check.specs.declared.verdict.Verdict.{Verdict}
-use Rattle.bone_check.specs.declared.verdict.Verdict.TheVariants.{Verified}
 use Rattle.bone_check.specs.declared.verdict.CheckEnd.{CheckEnd}
 use Rattle.bone_check.specs.declared.verdict.CheckEnd.TheVariants as check
 use Rattle.bone_check.specs.Checks as feeds
-use Rattle.bone_check.specs.Checks.{AllCame, AllLeft, ChecksAll, IsVerdict, Says, is_read, limit_of, verdict_on}
+use Rattle.bone_check.specs.Checks.{AllCame, AllLeft, IsVerdict, Says, is_read, limit_of, verdict_on}
 use Rattle.bone_check.specs.Laws.{VerifiedIsRight}
 use Rattle.backbone_main.specs.declared.ending.Ending.{Ending}
-use Rattle.backbone_main.specs.declared.ending.Ending.TheVariants.{Judged, OutOfMemory, BadText, TooLong, Failed}
-use Rattle.backbone_main.specs.Causes.{ChangesItsOwn, ReadsAndWrites, ReadsText, WritesNothing}
+use Rattle.backbone_main.specs.declared.ending.Ending.TheVariants.{OutOfMemory, BadText, TooLong, Failed}
+use Rattle.backbone_main.specs.Causes.{ReadsAndWrites, ReadsText, WritesNothing}
 use Rattle.backbone_main.specs.Verdicts.{verdict_text}
-use Rattle.backbone_main.specs.Endings.{IsItsOwn}
-use Rattle.backbone_main.specs.Checking.{AllTook, CheckAccounts, FailsToReadFeed, FindsFeedTooLong, Judges, StopsTelling, Tells, check_uses, names_witness}
+use Rattle.backbone_main.specs.Checking.{AllTook, FailsToReadFeed, FindsFeedTooLong, Judges, check_uses, names_witness}
 use Rattle.backbone_main.specs.Steps.Finish.{IsUnopened, IsUnread, Opens, Runs, Touches}
-use Rattle.backbone_main.specs.Steps.Judging.{IsConcluded, IsJudged, IsTold, IsWritten, end_of}
-use Rattle.backbone_main.proofs.Own.{touches_by_write, touches_more, touches_none, touches_of_text, touches_text_by_read, touches_text_of_opens}
+use Rattle.backbone_main.specs.Steps.Judging.{IsConcluded, IsJudged, IsTold, end_of}
+use Rattle.backbone_main.proofs.Own.{touches_by_write, touches_more, touches_of_text, touches_text_by_read, touches_text_of_opens}
 use Rattle.backbone_main.proofs.Refused.{reads_later, unread_later}
 use Rattle.backbone_main.proofs.Onward.{SamePuts, front_after, gave_after, read_onward}
 
 -- ---- without a formula
 
-pub check_unopened : (w : ℕ) (c : Checking) (ending : Ending) (a b : Told) → IsUnopened (check_uses c) ending a b → Opens (check_uses c) a b
-    → Runs w (Some (to_check c)) ending a b
+pub check_unopened : {last : ℕ} (w : ℕ) (c : Checking) (ending : Ending) (a b : Told) → IsUnopened (check_uses c) ending a b
+    → Opens (check_uses c) last a b → Runs w (Some (to_check c)) ending a b
 check_unopened w c (Failed (OpenFeed f)) a b is opens = record {
   account = is.1;
   own = record { used = is.0; no_note = λ e. absurd (cc) };
@@ -42,7 +38,7 @@ check_unopened w c (Failed (OpenFeed f)) a b is opens = record {
 check_unopened w c (Failed (OpenPort p)) a b is opens = absurd (true≢false (sym is.0))
 check_unopened w c ending a b is opens = absurd is
 
-touches_reading : (c : Checking) (a b d : Told) → Opens (check_uses c) a b → ReadsOnly feed.Text b d → Touches (check_uses c) a d
+touches_reading : {last : ℕ} (c : Checking) (a b d : Told) → Opens (check_uses c) last a b → ReadsOnly feed.Text b d → Touches (check_uses c) a d
 touches_reading c a b d opens only =
     touches_of_text (check_uses c) a d (touches_text_by_read (check_uses c) feed.Text a b d refl opens only)
 
@@ -55,7 +51,7 @@ unread_runs w c (BadText fault) a d is touches = record { account = is; own = tt
 unread_runs w c OutOfMemory a d is touches = record { account = is; own = tt; touches = touches }
 unread_runs w c ending a d is touches = absurd is
 
-pub check_unread : (w : ℕ) (c : Checking) (ending : Ending) (a b d : Told) → Opens (check_uses c) a b → ReadsOnly feed.Text b d
+pub check_unread : {last : ℕ} (w : ℕ) (c : Checking) (ending : Ending) (a b d : Told) → Opens (check_uses c) last a b → ReadsOnly feed.Text b d
     → IsUnread ending b d → Runs w (Some (to_check c)) ending a d
 check_unread w c ending a b d opens only is =
     unread_runs w c ending a d (unread_later (check_uses c) ending a b d opens is) (touches_reading c a b d opens only)
@@ -108,7 +104,7 @@ pub record IsReadThrough (c : Checking) (F : Cnf) (a m d : Told) (came : feeds.T
   pub reads : (f : Feed) → f ≢ feed.Text → m.faults (Read f) ≡ a.faults (Read f)
   pub touches : Touches (check_uses c) a d
 
-read_through : (c : Checking) (F : Cnf) (a b m d : Told) (came : feeds.Texts) → Opens (check_uses c) a b → ReadsOnly feed.Text b m
+read_through : {last : ℕ} (c : Checking) (F : Cnf) (a b m d : Told) (came : feeds.Texts) → Opens (check_uses c) last a b → ReadsOnly feed.Text b m
     → ReadsText (Ok F) b m → AllCame (names_witness c) m d came → IsReadThrough c F a m d came
 read_through c F a b m d came opens only read all = record {
   read = read_onward a m d (reads_later (check_uses c) a b m opens read)
@@ -145,40 +141,40 @@ tells w c F verdict ending a m d e came law vars through is told =
     let read = read_onward a d e through.read (told.only.left feed.Text) in
     let judged = judges c F verdict a m d e came law vars through told.only.left is in
     let touches = touches_more (check_uses c) a d e through.touches
-        (touches_by_write (check_uses c) port.Answer d e refl (λ is. absurd (cc)) told.only) in
+    (touches_by_write (check_uses c) port.Answer d e refl (λ is. absurd (cc)) told.only) in
     elim told.written [
       | inl whole ↦ (
-        let P : Ending → Type 0 = λ end. Runs w (Some (to_check c)) end a e in
-        subst P (sym whole.0) (record {
-          account = record {
-            formula = F;
-            read = read;
-            wrote = record {
-              judges = judged;
-              gave = gave_after port.Answer (verdict_text verdict) a d e through.put whole.1;
+          let P : Ending → Type 0 = λ end. Runs w (Some (to_check c)) end a e in
+          subst P (sym whole.0) (record {
+            account = record {
+              formula = F;
+              read = read;
+              wrote = record {
+                judges = judged;
+                gave = gave_after port.Answer (verdict_text verdict) a d e through.put whole.1;
+              };
             };
-          };
-          own = tt;
-          touches = touches;
-        })
-      )
+            own = tt;
+            touches = touches;
+          })
+          )
       | inr front ↦ (
-        let P : Ending → Type 0 = λ end. Runs w (Some (to_check c)) end a e in
-        subst P (sym front.0) (record {
-          account = record {
-            formula = F;
-            read = read;
-            wrote = record {
-              verdict = verdict;
-              judges = judged;
-              front = front_after port.Answer (verdict_text verdict) a d e through.put front.1;
-              rose = subst (λ (k : ℕ). k < 2 ^ 64 - 1 → k < e.faults (Write port.Answer)) (through.writes port.Answer) front.2;
+          let P : Ending → Type 0 = λ end. Runs w (Some (to_check c)) end a e in
+          subst P (sym front.0) (record {
+            account = record {
+              formula = F;
+              read = read;
+              wrote = record {
+                verdict = verdict;
+                judges = judged;
+                front = front_after port.Answer (verdict_text verdict) a d e through.put front.1;
+                rose = subst (λ (k : ℕ). k < 2 ^ 64 - 1 → k < e.faults (Write port.Answer)) (through.writes port.Answer) front.2;
+              };
             };
-          };
-          own = record { used = refl; no_note = λ is. absurd (cc) };
-          touches = touches;
-        })
-      )
+            own = record { used = refl; no_note = λ is. absurd (cc) };
+            touches = touches;
+          })
+          )
     ]
 
 -- ---- no verdict
@@ -267,8 +263,8 @@ concludes w c F (Err end) ending a m d e came law vars through all says is =
     let P : Ending → Told → Type 0 = λ x t. Runs w (Some (to_check c)) x a t in
     subst (λ (t : Told). P ending t) (sym is.1) (subst (λ (x : Ending). P x d) (sym is.0) (ends w c F end a m d came through all says))
 
-pub check_judged : (w : ℕ) (c : Checking) (F : Cnf) (ending : Ending) (a b m e : Told) → VerifiedIsRight → F.vars ≤ 2 ^ 20
-    → Opens (check_uses c) a b → ReadsOnly feed.Text b m → ReadsText (Ok F) b m → IsJudged F (names_witness c) ending m e
+pub check_judged : {last : ℕ} (w : ℕ) (c : Checking) (F : Cnf) (ending : Ending) (a b m e : Told) → VerifiedIsRight → F.vars ≤ 2 ^ 20
+    → Opens (check_uses c) last a b → ReadsOnly feed.Text b m → ReadsText (Ok F) b m → IsJudged F (names_witness c) ending m e
     → Runs w (Some (to_check c)) ending a e
 check_judged w c F ending a b m e law vars opens only read is =
     concludes w c F is.result ending a m is.middle e is.checks.came law vars

@@ -1,18 +1,18 @@
 -- What was done before the note is done after it, and what is done after the text was read is done since before it.
-use Rattle.std.proofs.Common.{◌≡◌, ◌≢◌, ℕ, ◌<◌, ◌-◌, ◌^◌, ◌++◌, List, [], true, refl, sym, ap, ◌∙◌, subst, inl, inr}
+use Rattle.std.proofs.Common.{◌≡◌, ◌≢◌, ℕ, ◌<◌, ◌-◌, ◌^◌, ◌++◌, List, [], true, sym, ap, ◌∙◌, subst, inl, inr, arith}
 use Rattle.std.specs.Prelude.{Option, option_map, IfSome, Result}
 use Rattle.bone_desk.specs.declared.desk.Feed.{Feed}
 use Rattle.bone_desk.specs.declared.desk.Feed.TheVariants as feed
 use Rattle.bone_desk.specs.declared.desk.Port.{Port}
 use Rattle.bone_desk.specs.declared.desk.Port.TheVariants as port
 use Rattle.bone_desk.specs.declared.desk.Act.{Act}
-use Rattle.bone_desk.specs.declared.desk.Act.TheVariants.{OpenFeed, OpenPort, Read, Write}
+use Rattle.bone_desk.specs.declared.desk.Act.TheVariants.{Read, Write}
 use Rattle.bone_desk.specs.Told.{Told, Rose, WritesOnly, Took, Gave}
 use Rattle.bone_desk.specs.Gives.{GaveFront}
 use Rattle.cnf_core.specs.Formulas.{Cnf}
 use Rattle.dimacs_reader.specs.declared.fault.Fault.{Fault}
 use Rattle.backbone_main.specs.declared.ending.Ending.{Ending}
-use Rattle.backbone_main.specs.Causes.{Acts, ChangesItsOwn, FailsToOpen, FailsToRead, FindsTooLong, ReadsText, RefusesText, WritesNothing}
+use Rattle.backbone_main.specs.Causes.{Acts, turn_of, ChangesItsOwn, EndsAt, FailsToOpen, FailsToRead, FindsTooLong, ReadsText, RefusesText, WritesNothing}
 use Rattle.backbone_main.specs.Notes.{note_of, GainsNote}
 use Rattle.backbone_main.specs.Steps.Finish.{Touches}
 use Rattle.backbone_main.proofs.Own.{own_more, own_writes}
@@ -53,12 +53,21 @@ pub rose_onward : (act : Act) (a b c : Told) → Rose act a b → act ≢ Write 
 rose_onward act a b c rose other only =
     subst (λ (n : ℕ). a.faults act < 2 ^ 64 - 1 → a.faults act < n) (sym (only.counts.others act other)) rose
 
+ends_onward : (act : Act) (a b c : Told) → EndsAt act a b → WritesOnly port.Notes b c → EndsAt act a c
+ends_onward act a b c is only = record {
+  counts = λ x later. only.counts.others x (λ same. note_is_apart x later same) ∙ is.counts x later;
+  left = λ f later. only.left f ∙ is.left f later;
+  put = λ p later. only.put p (λ same. note_is_apart (Write p) later (ap Write same)) ∙ is.put p later;
+}
+  where
+    note_is_apart : (x : Act) → turn_of act < turn_of x → x ≡ Write port.Notes → ⊥
+    note_is_apart x later same = let turn = ap turn_of same in absurd (omega (arith, later, turn))
+
 pub unopened_onward : (act : Act) (a b c : Told) → act ≢ Write port.Notes → FailsToOpen act a b → WritesOnly port.Notes b c
     → FailsToOpen act a c
 unopened_onward act a b c other is only = record {
   rose = rose_onward act a b c is.rose other only;
-  left = λ g. only.left g ∙ is.left g;
-  silent = silent_onward a b c is.silent only;
+  behind = ends_onward act a b c is.behind only;
 }
 
 pub unread_onward : (a b c : Told) → FailsToRead a b → WritesOnly port.Notes b c → FailsToRead a c
@@ -69,7 +78,7 @@ unread_onward a b c is only = record {
     rose = rose_onward (Read feed.Text) a b c is.fault.rose (λ e. absurd (cc)) only;
     limit = is.fault.limit;
   };
-  silent = silent_onward a b c is.silent only;
+  behind = ends_onward (Read feed.Text) a b c is.behind only;
 }
 
 pub long_onward : (a b c : Told) → FindsTooLong a b → WritesOnly port.Notes b c → FindsTooLong a c
@@ -77,12 +86,12 @@ long_onward a b c is only = record {
   text = is.text;
   took = took_onward feed.Text is.text a b c is.took only;
   long = is.long;
-  silent = silent_onward a b c is.silent only;
+  behind = ends_onward (Read feed.Text) a b c is.behind only;
 }
 
 pub refused_onward : (fault : Fault) (a b c : Told) → RefusesText fault a b → WritesOnly port.Notes b c → RefusesText fault a c
 refused_onward fault a b c is only =
-    record { read = read_onward a b c is.read (only.left feed.Text); silent = silent_onward a b c is.silent only }
+    record { read = read_onward a b c is.read (only.left feed.Text); behind = ends_onward (Read feed.Text) a b c is.behind only }
 
 -- ---- what is written from here on is written since before, where nothing was yet
 

@@ -1,14 +1,15 @@
 -- What a call changes of its own, step by step.
-use Rattle.std.proofs.Common.{◌≡◌, ◌≢◌, ◌≤◌, ◌<◌, ◌-◌, ◌^◌, ℕ, Bool, true, false, refl, sym, ap, ◌∙◌, subst, arith, true≢false}
+use Rattle.std.proofs.Common.{◌≡◌, ◌≢◌, ◌≤◌, ◌<◌, ◌-◌, ℕ, true, false, refl, sym, ap, ◌∙◌, subst, arith, true≢false}
 use Rattle.std.specs.Prelude.{Option, Some, None, IsTrue, IsFalse, IsSome, IsNone}
 use Rattle.bone_desk.specs.declared.desk.Feed.{Feed}
+use Rattle.bone_desk.specs.declared.desk.Feed.TheVariants as feed
 use Rattle.bone_desk.specs.declared.desk.Port.{Port}
 use Rattle.bone_desk.specs.declared.desk.Port.TheVariants as port
 use Rattle.bone_desk.specs.declared.desk.Act.{Act}
 use Rattle.bone_desk.specs.declared.desk.Act.TheVariants.{OpenFeed, OpenPort, Read, Write}
 use Rattle.bone_desk.specs.Told.{Told, Rose, CountsOnly, SameBytes, ReadsOnly, WritesOnly}
 use Rattle.bone_desk.proofs.Steps.{counts_never_fall}
-use Rattle.backbone_main.specs.Causes.{Acts, ChangesItsOwn}
+use Rattle.backbone_main.specs.Causes.{Acts, turn_of, ChangesItsOwn}
 use Rattle.backbone_main.specs.Steps.Finish.{Opens, Touches, TouchesText}
 
 pub own_none : (may : Acts) (t : Told) → ChangesItsOwn may t t
@@ -58,17 +59,37 @@ own_writes may p a b used only = record {
 
 -- openings
 
-pub opens_none : (may : Acts) (t : Told) → Opens may t t
-opens_none may t = record {
+-- an act behind another one is another one
+pub later_act : (act x : Act) → turn_of act < turn_of x → x ≢ act
+later_act act x later same = let turns = ap turn_of same in absurd (omega (arith, later, turns))
+
+early_feed : (f : Feed) → turn_of (OpenFeed f) < turn_of (Read feed.Text)
+early_feed feed.Text = omega arith
+early_feed feed.Answer = omega arith
+early_feed feed.Proof = omega arith
+early_feed feed.Witness = omega arith
+
+early_port : (p : Port) → turn_of (OpenPort p) < turn_of (Read feed.Text)
+early_port port.Answer = omega arith
+early_port port.Proof = omega arith
+early_port port.Witness = omega arith
+early_port port.Notes = omega arith
+
+pub opens_none : (may : Acts) (last : ℕ) (t : Told) → last < turn_of (Read feed.Text) → Opens may last t t
+opens_none may last t early = record {
   own = own_none may t;
+  early = early;
+  counts = λ x later. refl;
   same = record { left = λ f. refl; put = λ p. refl };
   reads = λ f. refl;
   writes = λ p. refl;
 }
 
-pub opens_more : (may : Acts) (a b c : Told) → Opens may a b → Opens may b c → Opens may a c
-opens_more may a b c first then = record {
+pub opens_more : (may : Acts) (m n : ℕ) (a b c : Told) → m ≤ n → Opens may m a b → Opens may n b c → Opens may n a c
+opens_more may m n a b c order first then = record {
   own = own_more may a b c first.own then.own;
+  early = then.early;
+  counts = λ x later. then.counts x later ∙ first.counts x (omega (arith, order, later));
   same = record {
     left = λ f. then.same.left f ∙ first.same.left f;
     put = λ p. then.same.put p ∙ first.same.put p;
@@ -78,37 +99,38 @@ opens_more may a b c first then = record {
 }
 
 pub opens_feed : (may : Acts) (f : Feed) (a b : Told) → IsTrue (may (OpenFeed f)) → SameBytes a b
-    → CountsOnly (OpenFeed f) a b → Opens may a b
+    → CountsOnly (OpenFeed f) a b → Opens may (turn_of (OpenFeed f)) a b
 opens_feed may f a b used same only = record {
   own = own_opens may (OpenFeed f) a b used same only;
+  early = early_feed f;
+  counts = λ x later. only.others x (later_act (OpenFeed f) x later);
   same = same;
   reads = λ g. only.others (Read g) (λ e. absurd (cc));
   writes = λ p. only.others (Write p) (λ e. absurd (cc));
 }
 
 pub opens_port : (may : Acts) (p : Port) (a b : Told) → IsTrue (may (OpenPort p)) → SameBytes a b
-    → CountsOnly (OpenPort p) a b → Opens may a b
+    → CountsOnly (OpenPort p) a b → Opens may (turn_of (OpenPort p)) a b
 opens_port may p a b used same only = record {
   own = own_opens may (OpenPort p) a b used same only;
+  early = early_port p;
+  counts = λ x later. only.others x (later_act (OpenPort p) x later);
   same = same;
   reads = λ g. only.others (Read g) (λ e. absurd (cc));
   writes = λ q. only.others (Write q) (λ e. absurd (cc));
 }
 
 -- after openings the text is read, or nothing more is done
-pub touches_text_of_opens : (may : Acts) (a b : Told) → Opens may a b → TouchesText may a b
+pub touches_text_of_opens : {last : ℕ} (may : Acts) (a b : Told) → Opens may last a b → TouchesText may a b
 touches_text_of_opens may a b opens = record { own = opens.own; put = opens.same.put; writes = opens.writes }
 
-pub touches_text_by_read : (may : Acts) (f : Feed) (a b c : Told) → IsTrue (may (Read f)) → Opens may a b → ReadsOnly f b c
+pub touches_text_by_read : {last : ℕ} (may : Acts) (f : Feed) (a b c : Told) → IsTrue (may (Read f)) → Opens may last a b → ReadsOnly f b c
     → TouchesText may a c
 touches_text_by_read may f a b c used opens only = record {
   own = own_more may a b c opens.own (own_reads may f b c used only);
   put = λ p. only.put p ∙ opens.same.put p;
   writes = λ p. only.counts.others (Write p) (λ e. absurd (cc)) ∙ opens.writes p;
 }
-
-pub touches_text_none : (may : Acts) (t : Told) → TouchesText may t t
-touches_text_none may t = record { own = own_none may t; put = λ p. refl; writes = λ p. refl }
 
 -- nothing of the notes is touched
 pub touches_none : (may : Acts) (t : Told) → Touches may t t

@@ -13,7 +13,7 @@ use Rattle.cnf_core.proofs.Lists.{Contains-head, Contains-tail, Contains-cons_ca
 use Rattle.cnf_core.proofs.Truth.{true_literals_within, Contains-true_literals, true_literal_of_is_true, true_literals-zero, true_literals-more, value_of-with_value, value_of-with_value_other}
 use Rattle.cnf_core.proofs.Models.{entails_at, entails-against}
 use Rattle.cnf_core.proofs.Shown.{shown_within, is_shown_backbone}
-use Rattle.answer_text.specs.AnswerText.{partial_text, IsPartialInOrder, SharesNoVar}
+use Rattle.answer_text.specs.AnswerText.{IsPartialInOrder, SharesNoVar}
 use Rattle.model_store.specs.Stores.{model_at}
 use Rattle.model_store.specs.Witnesses.{witness_in}
 use Rattle.model_store.specs.declared.witness.Witness.{Witness}

@@ -1,76 +1,95 @@
 -- A run that ends before its formula is there: an opening failed, or the reading of the text.
-use Rattle.std.proofs.Common.{◌≡◌, ◌≢◌, ◌<◌, ◌≤◌, ◌-◌, ◌^◌, ◌++◌, ℕ, List, [], length, true, false, refl, true≢false, sym, ap, ◌∙◌, subst, arith, inl}
+use Rattle.std.proofs.Common.{◌≡◌, ◌≢◌, ◌<◌, ◌≤◌, ◌-◌, ◌^◌, ℕ, List, true, false, refl, true≢false, sym, ap, ◌∙◌, subst, arith, inl}
 use Rattle.std.specs.Prelude.{Option, Some, None, Result, Ok, Err, OnOk, OnErr, IfErr, IsTrue, is_err, is_some, option_map}
 use Rattle.bone_desk.specs.declared.desk.Feed.{Feed}
 use Rattle.bone_desk.specs.declared.desk.Feed.TheVariants as feed
 use Rattle.bone_desk.specs.declared.desk.Port.{Port}
 use Rattle.bone_desk.specs.declared.desk.Act.{Act}
 use Rattle.bone_desk.specs.declared.desk.Act.TheVariants.{OpenFeed, OpenPort, Read}
-use Rattle.bone_desk.specs.Told.{Told, Rose, Took}
+use Rattle.bone_desk.specs.Told.{Told, CountsOnly, ReadsOnly, Rose, SameBytes}
 use Rattle.cnf_core.specs.Formulas.{Cnf}
 use Rattle.dimacs_reader.specs.declared.fault.Fault.{Fault}
 use Rattle.dimacs_reader.specs.Feeds.{Came, IsReadFault, IsReadAs, IsTooLong}
 use Rattle.backbone_main.specs.declared.ending.Ending.{Ending}
 use Rattle.backbone_main.specs.declared.ending.Ending.TheVariants.{BadText, Failed, OutOfMemory, TooLong}
-use Rattle.backbone_main.specs.Causes.{Acts, FailsToOpen, FailsToRead, FindsTooLong, ReadsText, RefusesText}
-use Rattle.backbone_main.specs.Endings.{IsItsOwn}
-use Rattle.backbone_main.specs.Steps.Finish.{IsRefused, IsUnopened, IsUnread, Opens}
-use Rattle.backbone_main.proofs.Own.{rose_after}
+use Rattle.backbone_main.specs.Causes.{Acts, turn_of, EndsAt, FailsToOpen, FailsToRead, FindsTooLong, ReadsText, RefusesText}
+use Rattle.backbone_main.specs.Steps.Finish.{IsFailedOpening, IsRefused, IsUnopened, IsUnread, Opens}
+use Rattle.backbone_main.proofs.Own.{later_act, rose_after}
 
 -- ---- openings
 
-fails_to_open : (may : Acts) (act : Act) (a b c : Told) → Opens may a b → Opens may b c → Rose act b c → FailsToOpen act a c
-fails_to_open may act a b c first then rose = record {
-  rose = rose_after act a b c (first.own.never_falls act) (then.own.never_falls act) rose;
-  left = λ g. then.same.left g ∙ first.same.left g;
-  silent = λ p other. then.same.put p ∙ first.same.put p;
+-- an opening fails behind others
+pub fails_to_open : (may : Acts) (last : ℕ) (act : Act) (a b c : Told) → last ≤ turn_of act → Opens may last a b → SameBytes b c
+    → CountsOnly act b c → Rose act b c → FailsToOpen act a c
+fails_to_open may last act a b c order first same only rose = record {
+  rose = rose_after act a b c (first.own.never_falls act) only.never_falls rose;
+  behind = record {
+    counts = λ x later. only.others x (later_act act x later) ∙ first.counts x (omega (arith, order, later));
+    left = λ f later. same.left f ∙ first.same.left f;
+    put = λ p later. same.put p ∙ first.same.put p;
+  };
 }
 
-pub unopened_feed : (may : Acts) (f : Feed) (a b c : Told) → IsTrue (may (OpenFeed f)) → Opens may a b → Opens may b c
-    → Rose (OpenFeed f) b c → IsUnopened may (Failed (OpenFeed f)) a c
-unopened_feed may f a b c used first then rose = (used, fails_to_open may (OpenFeed f) a b c first then rose)
+pub unopened_feed : (may : Acts) (last : ℕ) (f : Feed) (ending : Ending) (a b c : Told) → last ≤ turn_of (OpenFeed f)
+    → IsTrue (may (OpenFeed f)) → Opens may last a b → IsFailedOpening (OpenFeed f) ending b c → IsUnopened may ending a c
+unopened_feed may last f ending a b c order used first is =
+    let P : Ending → Type 0 = λ e. IsUnopened may e a c in
+    subst P (sym is.is) (used, fails_to_open may last (OpenFeed f) a b c order first is.same is.only is.rose)
 
-pub unopened_port : (may : Acts) (p : Port) (a b c : Told) → IsTrue (may (OpenPort p)) → Opens may a b → Opens may b c
-    → Rose (OpenPort p) b c → IsUnopened may (Failed (OpenPort p)) a c
-unopened_port may p a b c used first then rose = (used, fails_to_open may (OpenPort p) a b c first then rose)
+pub unopened_port : (may : Acts) (last : ℕ) (p : Port) (ending : Ending) (a b c : Told) → last ≤ turn_of (OpenPort p)
+    → IsTrue (may (OpenPort p)) → Opens may last a b → IsFailedOpening (OpenPort p) ending b c → IsUnopened may ending a c
+unopened_port may last p ending a b c order used first is =
+    let P : Ending → Type 0 = λ e. IsUnopened may e a c in
+    subst P (sym is.is) (used, fails_to_open may last (OpenPort p) a b c order first is.same is.only is.rose)
 
--- an opening fails after others
-pub unopened_later : (may : Acts) (ending : Ending) (a b c : Told) → Opens may a b → Opens may b c → IsUnopened may ending b c
-    → IsUnopened may ending a c
-unopened_later may (Failed (OpenFeed f)) a b c first then is =
-    (is.0, fails_to_open may (OpenFeed f) a b c first then is.1.rose)
-unopened_later may (Failed (OpenPort p)) a b c first then is =
-    (is.0, fails_to_open may (OpenPort p) a b c first then is.1.rose)
-unopened_later may ending a b c first then is = absurd is
-
-pub unopened_at_err : {T : Type 0} (may : Acts) (act : Act) (r : Result T Ending) (a b c : Told) → Opens may a b → Opens may b c
-    → IsTrue (may act) → IfErr r (λ ending. (any : Acts) → any act ≡ true → IsUnopened any ending b c)
+pub unopened_feed_at_err : {T : Type 0} (may : Acts) (last : ℕ) (f : Feed) (r : Result T Ending) (a b c : Told) → last ≤ turn_of (OpenFeed f)
+    → IsTrue (may (OpenFeed f)) → Opens may last a b → IfErr r (λ ending. IsFailedOpening (OpenFeed f) ending b c)
     → IfErr r (λ ending. IsUnopened may ending a c)
-unopened_at_err may act (Ok x) a b c first then used said = tt
-unopened_at_err may act (Err ending) a b c first then used said = unopened_later may ending a b c first then (said may used)
+unopened_feed_at_err may last f (Ok x) a b c order used first said = tt
+unopened_feed_at_err may last f (Err ending) a b c order used first said = unopened_feed may last f ending a b c order used first said
+
+pub unopened_port_at_err : {T : Type 0} (may : Acts) (last : ℕ) (p : Port) (r : Result T Ending) (a b c : Told) → last ≤ turn_of (OpenPort p)
+    → OnErr r (IsTrue (may (OpenPort p))) → Opens may last a b → IfErr r (λ ending. IsFailedOpening (OpenPort p) ending b c)
+    → IfErr r (λ ending. IsUnopened may ending a c)
+unopened_port_at_err may last p (Ok x) a b c order used first said = tt
+unopened_port_at_err may last p (Err ending) a b c order used first said = unopened_port may last p ending a b c order used first said
 
 -- ---- the text
+
+ends_at_text : (a b : Told) → ReadsOnly feed.Text a b → EndsAt (Read feed.Text) a b
+ends_at_text a b only = record {
+  counts = λ x later. only.counts.others x (later_act (Read feed.Text) x later);
+  left = λ f later. only.left f (λ same. later_act (Read feed.Text) (Read f) later (ap Read same));
+  put = λ p later. only.put p;
+}
 
 pub reads : {given : Result Cnf Fault} (a b : Told) (text : List ℕ) → Came a b text → IsReadAs b text given → ReadsText given a b
 reads a b text came read = record { text = text; took = came.took; read = read }
 
 pub fails_to_read : (a b : Told) (text : List ℕ) → Came a b text → IsReadFault a b text → FailsToRead a b
 fails_to_read a b text came fault =
-    record { text = text; took = came.took; fault = fault; silent = λ p other. came.only.put p }
+    record { text = text; took = came.took; fault = fault; behind = ends_at_text a b came.only }
 
 pub finds_too_long : (a b : Told) (text : List ℕ) → Came a b text → IsTooLong text → FindsTooLong a b
-finds_too_long a b text came long = record { text = text; took = came.took; long = long; silent = λ p other. came.only.put p }
+finds_too_long a b text came long = record { text = text; took = came.took; long = long; behind = ends_at_text a b came.only }
 
 pub refuses_text : (a b : Told) (text : List ℕ) (fault : Fault) → Came a b text → IsReadAs b text (Err fault) → RefusesText fault a b
-refuses_text a b text fault came read = record { read = reads a b text came read; silent = λ p other. came.only.put p }
+refuses_text a b text fault came read = record { read = reads a b text came read; behind = ends_at_text a b came.only }
 
 -- ---- the text after the openings
 
-pub reads_later : {given : Result Cnf Fault} (may : Acts) (a b c : Told) → Opens may a b → ReadsText given b c → ReadsText given a c
+behind_opens : {last : ℕ} (may : Acts) (a b c : Told) → Opens may last a b → EndsAt (Read feed.Text) b c → EndsAt (Read feed.Text) a c
+behind_opens may a b c opens behind = record {
+  counts = λ x later. behind.counts x later ∙ opens.counts x (omega (arith, opens.early, later));
+  left = λ f later. behind.left f later ∙ opens.same.left f;
+  put = λ p later. behind.put p later ∙ opens.same.put p;
+}
+
+pub reads_later : {given : Result Cnf Fault} {last : ℕ} (may : Acts) (a b c : Told) → Opens may last a b → ReadsText given b c → ReadsText given a c
 reads_later may a b c opens reads =
     record { text = reads.text; took = sym (opens.same.left feed.Text) ∙ reads.took; read = reads.read }
 
-pub unread_later : (may : Acts) (ending : Ending) (a b c : Told) → Opens may a b → IsUnread ending b c → IsUnread ending a c
+pub unread_later : {last : ℕ} (may : Acts) (ending : Ending) (a b c : Told) → Opens may last a b → IsUnread ending b c → IsUnread ending a c
 unread_later may (Failed (Read feed.Text)) a b c opens is = record {
   text = is.text;
   took = sym (opens.same.left feed.Text) ∙ is.took;
@@ -78,17 +97,17 @@ unread_later may (Failed (Read feed.Text)) a b c opens is = record {
     rose = subst (λ (n : ℕ). n < 2 ^ 64 - 1 → n < c.faults (Read feed.Text)) (opens.reads feed.Text) is.fault.rose;
     limit = is.fault.limit;
   };
-  silent = λ p other. is.silent p other ∙ opens.same.put p;
+  behind = behind_opens may a b c opens is.behind;
 }
 unread_later may (TooLong feed.Text) a b c opens is = record {
   text = is.text;
   took = sym (opens.same.left feed.Text) ∙ is.took;
   long = is.long;
-  silent = λ p other. is.silent p other ∙ opens.same.put p;
+  behind = behind_opens may a b c opens is.behind;
 }
 unread_later may (BadText fault) a b c opens is = record {
   read = reads_later may a b c opens is.read;
-  silent = λ p other. is.silent p other ∙ opens.same.put p;
+  behind = behind_opens may a b c opens is.behind;
 }
 unread_later may OutOfMemory a b c opens is = λ p other. is p other ∙ opens.same.put p
 unread_later may ending a b c opens is = absurd is

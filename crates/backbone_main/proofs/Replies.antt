@@ -1,6 +1,6 @@
 -- From an outcome to what is written of it.
-use Rattle.std.proofs.Common.{◌≡◌, ◌≢◌, ℕ, ◌≤◌, ◌<◌, ◌-◌, ◌^◌, ◌++◌, Bool, List, [], ◌∷◌, true, false, true≢false, refl, sym, ap, ◌∙◌, subst, inl, inr, arith}
-use Rattle.std.specs.Prelude.{Option, IfSome, IsSome, IsTrue, is_some, option_map}
+use Rattle.std.proofs.Common.{◌≡◌, ◌≢◌, ℕ, ◌<◌, ◌-◌, ◌^◌, ◌++◌, List, [], ◌∷◌, true, false, true≢false, refl, sym, ap, ◌∙◌, subst, inl, inr, arith}
+use Rattle.std.specs.Prelude.{Option, IfSome, IsSome, is_some, option_map}
 use Rattle.std.specs.Bool.{then_some}
 use Rattle.std.proofs.lemmas.List.Elements.{All-cons, All-nil}
 use Rattle.bone_desk.specs.declared.desk.Port.{Port}
@@ -16,7 +16,7 @@ use Rattle.lrat_lines.specs.declared.line.Line.{Line}
 use Rattle.lrat_lines.specs.Printed.{proof_text}
 use Rattle.model_store.specs.Stores.{model_at}
 use Rattle.answer_text.specs.declared.answer.Answer.{Answer}
-use Rattle.answer_text.specs.AnswerText.{answer_text, sat_text, unsat_text, partial_text, text_of}
+use Rattle.answer_text.specs.AnswerText.{sat_text, unsat_text, partial_text, text_of}
 use Rattle.answer_text.proofs.Verdicts.{answer_text-sat, answer_text-unsat}
 use Rattle.run_core.specs.declared.outcome.Report.{Report}
 use Rattle.run_core.specs.Outcomes.{IsReport, IsComplete, IsRefuted, IsSpent, IsUnfinished}
@@ -26,15 +26,15 @@ use Rattle.backbone_main.specs.declared.reply.Drops.{Drops}
 use Rattle.backbone_main.specs.declared.reply.Evidence.{Evidence}
 use Rattle.backbone_main.specs.declared.reply.Reply.{Reply}
 use Rattle.backbone_main.specs.declared.ending.Ending.{Ending}
-use Rattle.backbone_main.specs.declared.ending.Ending.TheVariants.{Failed, OutOfMemory}
+use Rattle.backbone_main.specs.declared.ending.Ending.TheVariants.{Failed}
 use Rattle.backbone_main.specs.Causes.{Acts}
 use Rattle.backbone_main.specs.Endings.{IsItsOwn}
-use Rattle.backbone_main.specs.Texts.{Texts, text_for, AreSpent, HasModel, IsEvidence, TellsBackbone, TellsNoModel, TellsPart, TextsSay, IsProofOf, IsWitnessOf, IsRefutation}
+use Rattle.backbone_main.specs.Texts.{Texts, AreSpent, HasModel, TellsBackbone, TellsNoModel, TellsPart, TextsSay, IsProofOf, IsWitnessOf, IsRefutation}
 use Rattle.backbone_main.specs.Extracting.{GaveAll, IsCutAt, StopsWhere}
 use Rattle.backbone_main.specs.Steps.Open.{open_literals}
 use Rattle.backbone_main.specs.Steps.Finish.{WritesOwn, Touches}
-use Rattle.backbone_main.specs.Steps.Replies.{AllowsFiles, EndsWriting, Finishes, IsKeptDrops, IsWantedReply, IsWritable, proof_text_of, drops_text_of, texts_of}
-use Rattle.backbone_main.proofs.Own.{touches_none, touches_more, touches_by_write, touches_by_choice}
+use Rattle.backbone_main.specs.Steps.Replies.{AllowsFiles, EndsWriting, Finishes, IsKeptDrops, IsWantedReply, IsWritable, proof_text_of, drops_text_of}
+use Rattle.backbone_main.proofs.Own.{touches_more, touches_by_write, touches_by_choice}
 use Rattle.backbone_main.proofs.Partial.{complete_witness, first_is_model, known_part, partial_witness}
 use Rattle.backbone_main.proofs.Evidence.{drops_where, drops_writable, printable_of_tidy, proof_of_report, proof_where, proof_writable, refutation}
 

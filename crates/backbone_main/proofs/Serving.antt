@@ -5,15 +5,13 @@ use Rattle.bone_desk.specs.declared.desk.Act.TheVariants.{Write}
 use Rattle.bone_desk.specs.Told.{Told, WritesOnly}
 use Rattle.bone_desk.proofs.Steps.{writes_none}
 use Rattle.lrat_log.specs.Laws.{NoLogIsFull}
-use Rattle.bone_words.specs.Settings.{Extraction, Checking, Sampling, Wanted, to_extract, to_check, to_sample}
+use Rattle.bone_words.specs.Settings.{Extraction, Checking, Wanted, to_extract, to_check, to_sample}
 use Rattle.backbone_main.specs.declared.ending.Ending.{Ending}
 use Rattle.backbone_main.specs.declared.ending.Ending.TheVariants.{OutOfMemory, Usage}
-use Rattle.backbone_main.specs.Causes.{IsOneOf}
 use Rattle.backbone_main.specs.Notes.{note_of, GainsNote}
 use Rattle.backbone_main.specs.Words.{uses, workers_of}
 use Rattle.backbone_main.specs.Endings.{code_of, IsItsOwn}
-use Rattle.backbone_main.specs.Extracting.{Extracts, files_of}
-use Rattle.backbone_main.specs.Checking.{Checks}
+use Rattle.backbone_main.specs.Extracting.{files_of}
 use Rattle.backbone_main.specs.Outcome.{Accounts, Serves}
 use Rattle.backbone_main.specs.Steps.Finish.{IsJob, IsJobOf, IsWordless, Runs, asked_check, asked_sample}
 use Rattle.backbone_main.specs.Steps.Finish.{asked as asked_extract}

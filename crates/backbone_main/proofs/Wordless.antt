@@ -1,9 +1,8 @@
 -- Words that ask for nothing that is done.
-use Rattle.std.proofs.Common.{◌≡◌, ℕ, [], ◌∷◌, Option, Some, None, refl, sym, subst, arith}
+use Rattle.std.proofs.Common.{[], ◌∷◌, refl, arith}
 use Rattle.bone_desk.specs.declared.desk.Port.TheVariants as port
 use Rattle.bone_desk.specs.Told.{Told, WritesOnly}
-use Rattle.bone_desk.proofs.Steps.{writes_none, writes_more}
-use Rattle.bone_words.specs.Settings.{Extraction, Checking, Sampling, Wanted, to_extract, to_check, to_sample}
+use Rattle.bone_desk.proofs.Steps.{writes_more}
 use Rattle.backbone_main.specs.declared.ending.Ending.{Ending}
 use Rattle.backbone_main.specs.declared.ending.Ending.TheVariants.{OutOfMemory, Usage}
 use Rattle.backbone_main.specs.Causes.{IsOneOf}

@@ -1,12 +1,13 @@
 //! The command `check`: judges an answer, a proof and a witness from a text alone.
-ghost use Rattle.std.specs.Prelude.{◌≡◌, ℕ, true, Some, IfErr};
+ghost use Rattle.std.specs.Prelude.{◌≡◌, ℕ, Some, IfErr};
 ghost use Rattle.bone_words.specs.Settings.{to_check};
-ghost use Rattle.backbone_main.specs.Causes.{Acts};
-ghost use Rattle.backbone_main.specs.Checking.{check_uses};
+ghost use Rattle.backbone_main.specs.Causes.{turn_of};
+ghost use Rattle.backbone_main.specs.Checking.{check_uses, names_witness};
 ghost use Rattle.backbone_main.specs.Steps.Finish.{asked_check, IsUnopened, Opens, Runs};
 ghost use Rattle.backbone_main.specs.Steps.Judging.{IsJudged, IsTold};
 
 use crate::ending::Ending;
+use crate::opening::open_feed;
 use crate::text::read_text;
 use crate::verdict_text::write_verdict;
 use bone_check::laws::verified_answer_is_right;
@@ -33,14 +34,21 @@ pub fn check<D: Desk>(alloc: Global, checking: &Checking, desk: &mut D) -> Endin
     }
     verified_answer_is_right();
     match read_text(alloc, desk) {
-        Ok(formula) => judge(alloc, &formula, checking.witness.is_some(), desk),
+        Ok(formula) => judge(alloc, &formula, names_witness(checking), desk),
         Err(ending) => ending,
     }
 }
 
+/// Whether the witness is named.
+fn names_witness(checking: &Checking) -> bool
+    ensures { result ≡ names_witness (asked_check checking.now) }
+{
+    checking.witness.is_some()
+}
+
 /// Opens the four feeds, the last where it is named.
 fn open_feeds<D: Desk>(checking: &Checking, desk: &mut D) -> Result<(), Ending>
-    ensures opens { Opens (check_uses (asked_check checking.now)) (D.told desk.old) (D.told desk.new) }
+    ensures opens { Opens (check_uses (asked_check checking.now)) (turn_of (Act.OpenFeed Feed.Witness)) (D.told desk.old) (D.told desk.new) }
     ensures refused { IfErr result (λ ending. IsUnopened (check_uses (asked_check checking.now)) ending
         (D.told desk.old) (D.told desk.new)) }
 {
@@ -56,18 +64,6 @@ fn open_feeds<D: Desk>(checking: &Checking, desk: &mut D) -> Result<(), Ending>
     match &checking.witness {
         Some(name) => open_feed(Feed::Witness, name.as_str(), desk),
         None => Ok(()),
-    }
-}
-
-/// Opens a feed.
-fn open_feed<D: Desk>(feed: Feed, name: &str, desk: &mut D) -> Result<(), Ending>
-    ensures opens { (may : Acts) → may (Act.OpenFeed feed) ≡ true → Opens may (D.told desk.old) (D.told desk.new) }
-    ensures refused { IfErr result (λ ending. (may : Acts) → may (Act.OpenFeed feed) ≡ true
-        → IsUnopened may ending (D.told desk.old) (D.told desk.new)) }
-{
-    match desk.open_feed(feed, name) {
-        Ok(()) => Ok(()),
-        Err(Failed) => Err(Ending::Failed(Act::OpenFeed(feed))),
     }
 }
 

@@ -9,6 +9,7 @@ mod extract;
 mod job;
 mod note;
 mod open_part;
+mod opening;
 mod reply;
 mod sample_text;
 mod sampling;

@@ -1,13 +1,13 @@
 //! An extraction up to its search: what it names is opened, and the formula is read.
-ghost use Rattle.std.specs.Prelude.{◌≡◌, IsSome, is_some, IfOk, IfErr, OnErr};
-ghost use Rattle.bone_desk.specs.Told.{Rose};
-ghost use Rattle.backbone_main.specs.Causes.{Acts};
+ghost use Rattle.std.specs.Prelude.{◌≡◌, IfOk, IfErr};
+ghost use Rattle.backbone_main.specs.Causes.{turn_of};
 ghost use Rattle.backbone_main.specs.Extracting.{extract_uses, files_of};
 ghost use Rattle.backbone_main.specs.Steps.Finish.{asked, IsRefused, IsTask, IsUnopened, Opens, TouchesText};
 
 use crate::ending::Ending;
+use crate::opening::{open_feed, open_port};
 use crate::text::read_text;
-use bone_desk::{Act, Desk, Failed, Feed, Port};
+use bone_desk::{Act, Desk, Feed, Port};
 use cnf_core::Formula;
 use run_core::RunSettings;
 use std::alloc::Global;
@@ -74,33 +74,15 @@ fn files_of(extraction: &Extraction) -> Files
 
 /// Opens the text, and then the files that are named.
 fn open_all<D: Desk>(extraction: &Extraction, desk: &mut D) -> Result<(), Ending>
-    ensures opens { Opens (extract_uses (asked extraction.now)) (D.told desk.old) (D.told desk.new) }
+    ensures opens { Opens (extract_uses (asked extraction.now)) (turn_of (Act.OpenPort Port.Witness)) (D.told desk.old) (D.told desk.new) }
     ensures refused { IfErr result (λ ending. IsUnopened (extract_uses (asked extraction.now)) ending
         (D.told desk.old) (D.told desk.new)) }
 {
-    if desk
-        .open_feed(Feed::Text, extraction.text.as_str())
-        .is_err()
-    {
-        return Err(Ending::Failed(Act::OpenFeed(Feed::Text)));
+    if let Err(ending) = open_feed(Feed::Text, extraction.text.as_str(), desk) {
+        return Err(ending);
     }
-    if open_port(Port::Proof, &extraction.proof, desk).is_err() {
-        return Err(Ending::Failed(Act::OpenPort(Port::Proof)));
+    if let Err(ending) = open_port(Port::Proof, &extraction.proof, desk) {
+        return Err(ending);
     }
-    if open_port(Port::Witness, &extraction.witness, desk).is_err() {
-        return Err(Ending::Failed(Act::OpenPort(Port::Witness)));
-    }
-    Ok(())
-}
-
-/// Opens a port where it is named.
-fn open_port<D: Desk>(port: Port, name: &Option<String>, desk: &mut D) -> Result<(), Failed>
-    ensures opens { (may : Acts) → may (Act.OpenPort port) ≡ is_some name.now → Opens may (D.told desk.old) (D.told desk.new) }
-    ensures named { OnErr result (IsSome name.now) }
-    ensures cause { OnErr result (Rose (Act.OpenPort port) (D.told desk.old) (D.told desk.new)) }
-{
-    match name {
-        Some(name) => desk.open_port(port, name.as_str()),
-        None => Ok(()),
-    }
+    open_port(Port::Witness, &extraction.witness, desk)
 }

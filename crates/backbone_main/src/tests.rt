@@ -2,6 +2,7 @@
 ghost use Rattle.std.specs.Prelude.{◌≤◌};
 
 mod agreement;
+mod checks;
 mod faults;
 mod files;
 mod rows;

@@ -11,6 +11,7 @@ use dimacs_reader::{Fault, ReadEnd, read_formula};
 use std::alloc::Global;
 
 /// Reads the Text feed to its end, or says how a run ends that can't.
+#[tactic(auto, using(crate::proofs::Refused::reads, crate::proofs::Refused::fails_to_read, crate::proofs::Refused::finds_too_long, crate::proofs::Refused::refuses_text))]
 pub fn read_text<D: Desk>(alloc: Global, desk: &mut D) -> Result<Formula, Ending>
     ensures read { IfOk result (λ F. ReadsText (Ok F) (D.told desk.old) (D.told desk.new)) }
     ensures refused { IfErr result (λ ending. IsUnread ending (D.told desk.old) (D.told desk.new)) }

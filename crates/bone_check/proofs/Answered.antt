@@ -119,6 +119,7 @@ both_came witness old mid new answer proof evidence came all =
     unread feed.Answer isnt = absurd (true≢false isnt)
     unread feed.Proof isnt = absurd (true≢false isnt)
     unread feed.Witness isnt = all.unread feed.Witness isnt
+
     took : AllCame witness old mid (texts_of answer [] []) → (f : Feed) → Took f (texts_of answer proof evidence f) old new
     took first feed.Text = took_more feed.Text [] [] old mid new (first.took feed.Text) (all.took feed.Text)
     took first feed.Answer =

@@ -72,6 +72,7 @@ all_came asked a b c d answer proof witness first second third unasked = record 
     unread feed.Answer isnt = absurd (true≢false isnt)
     unread feed.Proof isnt = absurd (true≢false isnt)
     unread feed.Witness isnt = (unasked isnt).none
+
     took : (f : Feed) → Took f (texts_of answer proof witness f) a d
     took feed.Text =
         took_on feed.Text [] a a d (took_none feed.Text a)

@@ -1,15 +1,16 @@
 -- What a run does before its note: it opens what is named, reads the text, and goes on from there.
-use Rattle.std.specs.Prelude.{◌≡◌, ◌^◌, ◌≤◌, ℕ, IsTrue, Option, Some, None, Ok, option_map}
+use Rattle.std.specs.Prelude.{◌≡◌, ◌^◌, ◌<◌, ◌≤◌, ℕ, IsTrue, Option, Some, None, Ok, option_map}
 use Rattle.std.specs.String.{string_bytes}
 use Rattle.bone_desk.specs.declared.desk.Feed.{Feed}
 use Rattle.bone_desk.specs.declared.desk.Feed.TheVariants as feed
 use Rattle.bone_desk.specs.declared.desk.Port.{Port}
 use Rattle.bone_desk.specs.declared.desk.Port.TheVariants as port
+use Rattle.bone_desk.specs.declared.desk.Act.{Act}
 use Rattle.bone_desk.specs.declared.desk.Act.TheVariants.{OpenFeed, OpenPort, Read, Write}
-use Rattle.bone_desk.specs.Told.{Told, SameBytes}
+use Rattle.bone_desk.specs.Told.{Told, CountsOnly, Rose, SameBytes}
 use Rattle.bone_words.specs.Settings.{Wanted, to_extract, to_check, to_sample}
 use Rattle.bone_words.specs.Settings as settings
-use Rattle.backbone_main.specs.Causes.{Acts, ChangesItsOwn, FailsToOpen, FailsToRead, FindsTooLong, ReadsText, RefusesText, WritesNothing}
+use Rattle.backbone_main.specs.Causes.{Acts, turn_of, ChangesItsOwn, FailsToOpen, FailsToRead, FindsTooLong, ReadsText, RefusesText, WritesNothing}
 use Rattle.backbone_main.specs.Words.{uses}
 use Rattle.backbone_main.specs.Endings.{IsItsOwn}
 use Rattle.backbone_main.specs.Extracting.{ExtractAccounts, files_of}
@@ -36,12 +37,21 @@ pub record TouchesText (may : Acts) (old new : Told) : Type 0 where
   pub put : (p : Port) → new.put p ≡ old.put p
   pub writes : (p : Port) → new.faults (Write p) ≡ old.faults (Write p)
 
--- something that is named was opened, or could not be
-pub record Opens (may : Acts) (old new : Told) : Type 0 where
+-- something that is named was opened, or could not be, in no turn behind this one
+pub record Opens (may : Acts) (last : ℕ) (old new : Told) : Type 0 where
   pub own : ChangesItsOwn may old new
+  pub early : last < turn_of (Read feed.Text)
+  pub counts : (a : Act) → last < turn_of a → new.faults a ≡ old.faults a
   pub same : SameBytes old new
   pub reads : (f : Feed) → new.faults (Read f) ≡ old.faults (Read f)
   pub writes : (p : Port) → new.faults (Write p) ≡ old.faults (Write p)
+
+-- this opening failed, and so ends the run
+pub record IsFailedOpening (act : Act) (ending : Ending) (old new : Told) : Type 0 where
+  pub is : ending ≡ Failed act
+  pub same : SameBytes old new
+  pub only : CountsOnly act old new
+  pub rose : Rose act old new
 
 -- an opening that is wanted failed
 abbrev pub IsUnopened : Acts → Ending → Told → Told → Type 0

@@ -19,7 +19,7 @@ const TWO_FORCED: &[u8] = b"p cnf 33 2\n32 0\n-33 0\n";
 const TWO_FORCED_ANSWER: &[u8] = b"s SATISFIABLE\nb 32\nb -33\nb 0\n";
 
 /// Each assignment of three variables makes one of the clauses false.
-const EIGHT: &[u8] =
+pub const EIGHT: &[u8] =
     b"p cnf 3 8\n1 2 3 0\n1 2 -3 0\n1 -2 3 0\n1 -2 -3 0\n-1 2 3 0\n-1 2 -3 0\n-1 -2 3 0\n-1 -2 -3 0\n";
 
 /// Variable 1, or those clauses over the others.

@@ -1,5 +1,5 @@
 -- Both lists are in order, and stand in the answer with their evidence.
-use Rattle.std.proofs.Common.{sym, subst, ◌∙◌}
+use Rattle.std.proofs.Common.{sym, subst}
 use Rattle.cnf_core.specs.Literals.{Literals}
 use Rattle.answer_text.specs.AnswerText.{IsPartialInOrder}
 use Rattle.backbone_main.proofs.Partial.{partial_in_order}
