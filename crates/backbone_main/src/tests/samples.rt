@@ -62,7 +62,11 @@ fn text_at(status: u8) -> &'static [u8] {
 
 #[test]
 fn a_spent_budget_is_told_without_a_summary(rt: HostRuntime) -> Result<(), Fail> {
-    let rows = [("--budget=1", false), ("--budget=5", true), ("--budget=25", true)];
+    let rows = [
+        ("--budget=1", false),
+        ("--budget=5", true),
+        ("--budget=25", true),
+    ];
     for (budget, may_be_whole) in rows {
         let list = ["sample", "--vars=50", "--clauses=200", "--seed=3", budget];
         for (number, desk) in run_both(&rt, rt.alloc(), &list, b"", 64)? {
