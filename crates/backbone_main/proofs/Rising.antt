@@ -1,5 +1,5 @@
 -- Literals that rise by variable are no more than the variables.
-use Rattle.std.proofs.Common.{◌≡◌, ℕ, zero, suc, ◌<◌, ◌≤◌, [], ◌∷◌, length, get_or, arith}
+use Rattle.std.proofs.Common.{ℕ, zero, suc, ◌<◌, ◌≤◌, [], ◌∷◌, length, get_or, arith}
 use Rattle.cnf_core.specs.Literals.{Literal, Literals, AreWithin, RisesByVar}
 
 -- each variable is above the place of its literal

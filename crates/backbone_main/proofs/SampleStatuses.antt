@@ -1,7 +1,6 @@
 -- A sample past its note: what was done is done, and which statuses there are.
-use Rattle.std.proofs.Common.{◌≡◌, ◌≢◌, ℕ, ◌≤◌, [], ◌∷◌, refl, sym, subst, arith}
+use Rattle.std.proofs.Common.{◌≡◌, ℕ, ◌≤◌, [], ◌∷◌, refl, arith}
 use Rattle.bone_desk.specs.declared.desk.Port.TheVariants as port
-use Rattle.bone_desk.specs.declared.desk.Act.{Act}
 use Rattle.bone_desk.specs.declared.desk.Act.TheVariants.{Write}
 use Rattle.bone_desk.specs.Told.{Told, WritesOnly}
 use Rattle.lrat_log.specs.Laws.{enough, NoLogIsFull}

@@ -1,30 +1,27 @@
 -- From what a run over a sample found out to what is told of it, and which statuses that leaves.
-use Rattle.std.proofs.Common.{◌≡◌, ◌≢◌, ℕ, ◌≤◌, ◌<◌, ◌^◌, [], ◌∷◌, length, get_or, Some, refl, sym, ap, ◌∙◌, subst, arith}
+use Rattle.std.proofs.Common.{◌≡◌, ℕ, ◌≤◌, ◌^◌, length, get_or, Some, refl, sym, ap, subst, arith}
 use Rattle.bone_desk.specs.declared.desk.Port.TheVariants as port
-use Rattle.bone_desk.specs.declared.desk.Act.{Act}
-use Rattle.bone_desk.specs.declared.desk.Act.TheVariants.{OpenFeed, OpenPort, Read, Write}
+use Rattle.bone_desk.specs.declared.desk.Act.TheVariants.{Write}
 use Rattle.bone_desk.specs.Told.{Told, Rose, WritesOnly, Gave}
 use Rattle.bone_desk.specs.Gives.{GaveFront}
 use Rattle.std.specs.Prelude.{Result, Ok, Err, IfOk}
 use Rattle.cnf_core.specs.declared.memory.NoMemory.{NoMemory}
 use Rattle.cnf_core.specs.Literals.{Literals, Assignment, AreWithin}
-use Rattle.cnf_core.specs.Formulas.{Cnf, IsFormula, IsModel, shown_backbone}
+use Rattle.cnf_core.specs.Formulas.{Cnf, IsFormula, IsModel}
 use Rattle.cnf_core.proofs.Models.{no_model}
 use Rattle.cnf_core.proofs.Shown.{shown_within}
-use Rattle.lrat_log.specs.Laws.{enough, NoLogIsFull}
 use Rattle.bone_words.specs.Settings.{Sampling, to_sample}
 use Rattle.run_core.specs.declared.outcome.Report.{Report}
 use Rattle.run_core.specs.Outcomes.{IsComplete, IsReport}
 use Rattle.backbone_main.specs.declared.ending.Ending.{Ending}
-use Rattle.backbone_main.specs.declared.ending.Ending.TheVariants.{Complete, Unsatisfiable, Sampled, Unfinished, Unknown, OutOfMemory, BadText, TooLong, Failed, Usage}
+use Rattle.backbone_main.specs.declared.ending.Ending.TheVariants.{Sampled, Unfinished, Unknown, Failed}
 use Rattle.backbone_main.specs.declared.sample_text.Finding.{Finding}
 use Rattle.backbone_main.specs.declared.sample_text.Finding.TheVariants.{Backbone, Part, Nothing}
 use Rattle.backbone_main.specs.declared.sample_text.Summary.{Summary}
-use Rattle.backbone_main.specs.Causes.{IsFaultless, IsOneOf, IsTaken}
-use Rattle.backbone_main.specs.Endings.{IsItsOwn, IsOwnAct, code_of}
+use Rattle.backbone_main.specs.Endings.{IsItsOwn}
 use Rattle.backbone_main.specs.Texts.{HasModel}
-use Rattle.backbone_main.specs.Sampling.{EndsSampling, SampleAccounts, StopsSample, formula_of, sample_text, sample_uses}
-use Rattle.backbone_main.specs.Steps.Findings.{IsFinding, ending_of, finding_text, summary_of}
+use Rattle.backbone_main.specs.Sampling.{SampleAccounts, StopsSample, formula_of, sample_uses}
+use Rattle.backbone_main.specs.Steps.Findings.{IsFinding, ending_of, finding_text}
 use Rattle.backbone_main.specs.Steps.Finish.{Runs}
 use Rattle.backbone_main.proofs.Own.{touches_by_write}
 use Rattle.backbone_main.proofs.Rising.{few_rise}

@@ -5,7 +5,7 @@ use Rattle.bone_desk.specs.declared.desk.Act.TheVariants.{Write}
 use Rattle.bone_desk.specs.Told.{Told, WritesOnly}
 use Rattle.bone_desk.proofs.Steps.{writes_none}
 use Rattle.lrat_log.specs.Laws.{NoLogIsFull}
-use Rattle.bone_words.specs.Settings.{Extraction, Checking, Wanted, to_extract, to_check, to_sample}
+use Rattle.bone_words.specs.Settings.{Wanted, to_extract, to_check, to_sample}
 use Rattle.backbone_main.specs.declared.ending.Ending.{Ending}
 use Rattle.backbone_main.specs.declared.ending.Ending.TheVariants.{OutOfMemory, Usage}
 use Rattle.backbone_main.specs.Notes.{note_of, GainsNote}
