@@ -1,5 +1,5 @@
 -- A text that is given: what was read of it, and what it means.
-use Rattle.std.proofs.Common.{◌≡◌, ℕ, ◌≤◌, ◌-◌, ◌++◌, List, [], length, Option, Some, None, Ok, Err, sym, ap, ◌∙◌, subst, arith}
+use Rattle.std.proofs.Common.{◌≡◌, ℕ, ◌≤◌, ◌++◌, List, [], length, Option, Some, None, Ok, Err, sym, ap, ◌∙◌, subst, arith}
 use Rattle.std.specs.Prelude.{option_map, IfSome, Result}
 use Rattle.std.proofs.lemmas.List.{append-nil, length-append}
 use Rattle.bone_desk.specs.declared.desk.Feed.TheVariants as feed

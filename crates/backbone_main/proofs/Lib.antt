@@ -13,4 +13,7 @@ pub mod Answering
 pub mod Judging
 pub mod Checked
 pub mod Wordless
+pub mod Rising
+pub mod Sampled
+pub mod SampleStatuses
 pub mod Serving

@@ -1,5 +1,5 @@
 -- What a call changes of its own, step by step.
-use Rattle.std.proofs.Common.{◌≡◌, ◌≢◌, ◌≤◌, ◌<◌, ◌-◌, ℕ, true, false, refl, sym, ap, ◌∙◌, subst, arith, true≢false}
+use Rattle.std.proofs.Common.{◌≡◌, ◌≢◌, ◌≤◌, ◌<◌, ℕ, refl, sym, ap, ◌∙◌, subst, arith, true≢false}
 use Rattle.std.specs.Prelude.{Option, Some, None, IsTrue, IsFalse, IsSome, IsNone}
 use Rattle.bone_desk.specs.declared.desk.Feed.{Feed}
 use Rattle.bone_desk.specs.declared.desk.Feed.TheVariants as feed

@@ -1,5 +1,5 @@
 -- From an outcome to what is written of it.
-use Rattle.std.proofs.Common.{◌≡◌, ◌≢◌, ℕ, ◌<◌, ◌-◌, ◌^◌, ◌++◌, List, [], ◌∷◌, true, false, true≢false, refl, sym, ap, ◌∙◌, subst, inl, inr, arith}
+use Rattle.std.proofs.Common.{◌≡◌, ℕ, ◌<◌, ◌-◌, ◌^◌, ◌++◌, List, [], ◌∷◌, false, true≢false, refl, sym, ap, ◌∙◌, subst, inl, inr, arith}
 use Rattle.std.specs.Prelude.{Option, IfSome, IsSome, is_some, option_map}
 use Rattle.std.specs.Bool.{then_some}
 use Rattle.std.proofs.lemmas.List.Elements.{All-cons, All-nil}
@@ -10,7 +10,7 @@ use Rattle.bone_desk.specs.declared.desk.Act.TheVariants.{Write}
 use Rattle.bone_desk.specs.Told.{Told, Rose, WritesOnly, Gave}
 use Rattle.bone_desk.specs.Gives.{GaveFront}
 use Rattle.cnf_core.specs.Literals.{Literals}
-use Rattle.cnf_core.specs.Formulas.{Cnf, models, shown_backbone}
+use Rattle.cnf_core.specs.Formulas.{Cnf, shown_backbone}
 use Rattle.cnf_core.proofs.Models.{no_model}
 use Rattle.lrat_lines.specs.declared.line.Line.{Line}
 use Rattle.lrat_lines.specs.Printed.{proof_text}

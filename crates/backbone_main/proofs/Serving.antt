@@ -5,34 +5,36 @@ use Rattle.bone_desk.specs.declared.desk.Act.TheVariants.{Write}
 use Rattle.bone_desk.specs.Told.{Told, WritesOnly}
 use Rattle.bone_desk.proofs.Steps.{writes_none}
 use Rattle.lrat_log.specs.Laws.{NoLogIsFull}
-use Rattle.bone_words.specs.Settings.{Extraction, Checking, Wanted, to_extract, to_check, to_sample}
+use Rattle.bone_words.specs.Settings.{Wanted, to_extract, to_check, to_sample}
 use Rattle.backbone_main.specs.declared.ending.Ending.{Ending}
-use Rattle.backbone_main.specs.declared.ending.Ending.TheVariants.{NotBuilt, OutOfMemory, Usage}
+use Rattle.backbone_main.specs.declared.ending.Ending.TheVariants.{OutOfMemory, Usage}
 use Rattle.backbone_main.specs.Notes.{note_of, GainsNote}
 use Rattle.backbone_main.specs.Words.{uses, workers_of}
 use Rattle.backbone_main.specs.Endings.{code_of, IsItsOwn}
 use Rattle.backbone_main.specs.Extracting.{files_of}
 use Rattle.backbone_main.specs.Outcome.{Accounts, Serves}
-use Rattle.backbone_main.specs.Steps.Finish.{IsJob, IsJobOf, IsWordless, Runs, asked_check}
+use Rattle.backbone_main.specs.Steps.Finish.{IsJob, IsJobOf, IsWordless, Runs, asked_check, asked_sample}
 use Rattle.backbone_main.specs.Steps.Finish.{asked as asked_extract}
 use Rattle.backbone_main.specs.declared.task.Extraction as asked
 use Rattle.backbone_main.specs.declared.check.Checking as named
+use Rattle.backbone_main.specs.declared.sampling.Sampling as planted
 use Rattle.backbone_main.specs.declared.job.Job.{Job}
 use Rattle.backbone_main.specs.declared.job.Job.TheVariants.{Extract, Check, Sample}
 use Rattle.backbone_main.proofs.Own.{touches_none}
 use Rattle.backbone_main.proofs.Given.{at_code}
 use Rattle.backbone_main.proofs.Onward.{note_after, own_with_note}
-use Rattle.backbone_main.proofs.Wordless.{sample_code, sample_onward, usage_code, usage_onward}
+use Rattle.backbone_main.proofs.Wordless.{usage_code, usage_onward}
 use Rattle.backbone_main.proofs.Finished.{extract_onward}
 use Rattle.backbone_main.proofs.Answering.{extracts}
 use Rattle.backbone_main.proofs.Checked.{check_onward, checks}
+use Rattle.backbone_main.proofs.SampleStatuses.{sample_onward, samples}
 
 accounts_onward : (w : ℕ) (wanted : Option Wanted) (ending : Ending) (a b c : Told) → Accounts w wanted ending a b
     → WritesOnly port.Notes b c → Accounts w wanted ending a c
 accounts_onward w None ending a b c is only = usage_onward ending a b c is only
 accounts_onward w (Some (to_extract e)) ending a b c is only = extract_onward w e.budget (files_of e) ending a b c is only
 accounts_onward w (Some (to_check k)) ending a b c is only = check_onward k ending a b c is only
-accounts_onward w (Some (to_sample s)) ending a b c is only = sample_onward ending a b c is only
+accounts_onward w (Some (to_sample s)) ending a b c is only = sample_onward w s ending a b c is only
 
 writes_notes : (wanted : Option Wanted) → uses wanted (Write port.Notes) ≡ true
 writes_notes None = refl
@@ -66,8 +68,8 @@ serves w wanted ending number old mid new law is_code note only runs =
           (account_as w wanted (Some (to_extract e)) ending old new is account) (own_as wanted (Some (to_extract e)) ending is runs.own);
       checks = λ c is. checks c ending number old new is_code
           (account_as w wanted (Some (to_check c)) ending old new is account) (own_as wanted (Some (to_check c)) ending is runs.own);
-      not_built = λ s is. at_code (52 ∷ 40 ∷ []) number ending is_code
-          (sample_code ending old new (account_as w wanted (Some (to_sample s)) ending old new is account));
+      samples = λ s is. samples law w s ending number old new is_code
+          (account_as w wanted (Some (to_sample s)) ending old new is account);
     }
 
 -- ---- by the job of the words
@@ -94,20 +96,25 @@ runs_check w wanted c ending a b is runs =
     subst (λ (o : Option Wanted). Runs w o ending a b)
     (sym (job_is wanted (to_check (asked_check c)) (Check c) (λ v same. same) is)) (runs w)
 
--- nothing was done
+pub runs_sample : (wanted : Option Wanted) (s : planted.Sampling) (ending : Ending) (a b : Told) → IsJobOf wanted (Sample s)
+    → Runs s.settings.workers (Some (to_sample (asked_sample s))) ending a b → Runs (workers_of wanted) wanted ending a b
+runs_sample wanted s ending a b is runs =
+    subst (λ (o : Option Wanted). Runs (workers_of o) o ending a b)
+    (sym (job_is wanted (to_sample (asked_sample s)) (Sample s) (λ v same. same) is)) runs
 
-pub runs_sample : (w : ℕ) (wanted : Option Wanted) (t : Told) → IsJobOf wanted Sample → Runs w wanted NotBuilt t t
-runs_sample w None t is = absurd is
-runs_sample w (Some (to_extract e)) t is = absurd is
-runs_sample w (Some (to_check c)) t is = absurd is
-runs_sample w (Some (to_sample s)) t is =
-    record { account = writes_none port.Notes t; own = tt; touches = touches_none (uses (Some (to_sample s))) t }
+pub runs_sample_alone : (wanted : Option Wanted) (s : planted.Sampling) (ending : Ending) (a b : Told) → IsJobOf wanted (Sample s)
+    → Runs 1 (Some (to_sample (asked_sample s))) ending a b → Runs 1 wanted ending a b
+runs_sample_alone wanted s ending a b is runs =
+    subst (λ (o : Option Wanted). Runs 1 o ending a b)
+    (sym (job_is wanted (to_sample (asked_sample s)) (Sample s) (λ v same. same) is)) runs
+
+-- nothing was done
 
 lacking_account : (w : ℕ) (wanted : Option Wanted) (t : Told) → Accounts w wanted OutOfMemory t t
 lacking_account w None t = writes_none port.Notes t
 lacking_account w (Some (to_extract e)) t = inl (λ p other. refl)
 lacking_account w (Some (to_check c)) t = λ p other. refl
-lacking_account w (Some (to_sample s)) t = writes_none port.Notes t
+lacking_account w (Some (to_sample s)) t = λ p other. refl
 
 pub runs_wordless : (w : ℕ) (wanted : Option Wanted) (ending : Ending) (t : Told) → IsWordless wanted ending → Runs w wanted ending t t
 runs_wordless w wanted Usage t is =

@@ -4,8 +4,8 @@ use Rattle.bone_desk.specs.declared.desk.Act.{Act}
 use Rattle.bone_desk.specs.declared.desk.Act.TheVariants.{OpenFeed, OpenPort, Read, Write}
 use Rattle.bone_desk.specs.declared.desk.Port.TheVariants as port
 use Rattle.backbone_main.specs.declared.ending.Ending.{Ending}
-use Rattle.backbone_main.specs.declared.ending.Ending.TheVariants.{Complete, Unsatisfiable, Unfinished, Unknown, Judged, OutOfMemory, BadText, TooLong}
-use Rattle.backbone_main.specs.declared.ending.Ending.TheVariants.{NotBuilt, Failed, Usage}
+use Rattle.backbone_main.specs.declared.ending.Ending.TheVariants.{Complete, Unsatisfiable, Unfinished, Unknown, Sampled, Judged, OutOfMemory, BadText, TooLong}
+use Rattle.backbone_main.specs.declared.ending.Ending.TheVariants.{Failed, Usage}
 use Rattle.backbone_main.specs.Causes.{Acts}
 use Rattle.backbone_main.specs.Verdicts.{verdict_code}
 
@@ -22,11 +22,11 @@ code_of Complete = 10
 code_of Unsatisfiable = 20
 code_of Unfinished = 30
 code_of Unknown = 31
+code_of Sampled = 0
 code_of (Judged verdict) = verdict_code verdict
 code_of OutOfMemory = 40
 code_of (BadText fault) = 50
 code_of (TooLong f) = 51
-code_of NotBuilt = 52
 code_of (Failed act) = failure_code act
 code_of Usage = 64
 

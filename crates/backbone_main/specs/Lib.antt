@@ -5,6 +5,7 @@ pub mod Endings
 pub mod Texts
 pub mod Extracting
 pub mod Checking
+pub mod Sampling
 pub mod Words
 pub mod Outcome
 pub mod Steps

@@ -4,13 +4,14 @@ use Rattle.bone_desk.specs.declared.desk.Port.TheVariants as port
 use Rattle.bone_desk.specs.Told.{Told, WritesOnly}
 use Rattle.bone_words.specs.Settings.{Extraction, Checking, Sampling, Wanted, to_extract, to_check, to_sample}
 use Rattle.backbone_main.specs.declared.ending.Ending.{Ending}
-use Rattle.backbone_main.specs.declared.ending.Ending.TheVariants.{OutOfMemory, NotBuilt, Usage}
+use Rattle.backbone_main.specs.declared.ending.Ending.TheVariants.{OutOfMemory, Usage}
 use Rattle.backbone_main.specs.Notes.{note_of, GainsNote}
 use Rattle.backbone_main.specs.Causes.{ChangesItsOwn, IsOneOf}
 use Rattle.backbone_main.specs.Words.{uses}
 use Rattle.backbone_main.specs.Endings.{code_of, IsItsOwn}
 use Rattle.backbone_main.specs.Extracting.{ExtractAccounts, Extracts, files_of}
 use Rattle.backbone_main.specs.Checking.{CheckAccounts, Checks}
+use Rattle.backbone_main.specs.Sampling.{SampleAccounts, Samples}
 
 -- the words have no meaning, or were not read
 abbrev pub UsageAccounts : Ending → Told → Told → Type 0
@@ -18,18 +19,12 @@ UsageAccounts Usage old new = WritesOnly port.Notes old new
 UsageAccounts OutOfMemory old new = WritesOnly port.Notes old new
 UsageAccounts ending old new = ⊥
 
--- what they ask for isn't built yet
-abbrev pub SampleAccounts : Ending → Told → Told → Type 0
-SampleAccounts NotBuilt old new = WritesOnly port.Notes old new
-SampleAccounts OutOfMemory old new = WritesOnly port.Notes old new
-SampleAccounts ending old new = ⊥
-
 -- what a run with so many workers did for what is wanted, by its ending
 abbrev pub Accounts : ℕ → Option Wanted → Ending → Told → Told → Type 0
 Accounts workers None ending old new = UsageAccounts ending old new
 Accounts workers (Some (to_extract e)) ending old new = ExtractAccounts workers e.budget (files_of e) ending old new
 Accounts workers (Some (to_check c)) ending old new = CheckAccounts c ending old new
-Accounts workers (Some (to_sample s)) ending old new = SampleAccounts ending old new
+Accounts workers (Some (to_sample s)) ending old new = SampleAccounts workers s ending old new
 
 -- the status is that of an ending which tells what was done with so many workers, and its note was written last
 pub record EndsWith (workers : ℕ) (wanted : Option Wanted) (number : ℕ) (old new : Told) : Type 0 where
@@ -47,4 +42,4 @@ pub record Serves (workers : ℕ) (wanted : Option Wanted) (number : ℕ) (old n
   pub usage : wanted ≡ None → IsOneOf number (64 ∷ 40 ∷ [])
   pub extracts : (e : Extraction) → wanted ≡ Some (to_extract e) → Extracts e number old new
   pub checks : (c : Checking) → wanted ≡ Some (to_check c) → Checks c number old new
-  pub not_built : (s : Sampling) → wanted ≡ Some (to_sample s) → IsOneOf number (52 ∷ 40 ∷ [])
+  pub samples : (s : Sampling) → wanted ≡ Some (to_sample s) → Samples s number old new

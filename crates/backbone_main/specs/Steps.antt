@@ -3,3 +3,4 @@ pub mod Replies
 pub mod Open
 pub mod Numbered
 pub mod Judging
+pub mod Findings

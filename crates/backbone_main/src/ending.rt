@@ -17,6 +17,8 @@ pub enum Ending {
     Unfinished,
     /// Whether the formula has a model was not found out within the budget, and that was written.
     Unknown,
+    /// The backbone of a sample was summed up, and that was written.
+    Sampled,
     /// An answer was judged, and the verdict was written.
     Judged(Verdict),
     /// There was too little memory. What was known then of the backbone was written, or a front of the proof, or nothing.
@@ -25,8 +27,6 @@ pub enum Ending {
     BadText(Fault),
     /// The feed has more bytes than are read.
     TooLong(Feed),
-    /// The words ask for what the program can't do yet.
-    NotBuilt,
     /// This act failed. It isn't the writing of the note.
     Failed(Act),
     /// The words of the command line have no meaning.
@@ -43,11 +43,11 @@ impl Ending {
             Ending::Unsatisfiable => 20,
             Ending::Unfinished => 30,
             Ending::Unknown => 31,
+            Ending::Sampled => 0,
             Ending::Judged(verdict) => verdict_code(verdict),
             Ending::OutOfMemory => 40,
             Ending::BadText(_) => 50,
             Ending::TooLong(_) => 51,
-            Ending::NotBuilt => 52,
             Ending::Failed(act) => failure_code(act),
             Ending::Usage => 64,
         }

@@ -6,6 +6,7 @@ ghost use Rattle.backbone_main.specs.Steps.Finish.{HasJobLimits, IsJob, IsJobOf,
 
 use crate::check::Checking;
 use crate::ending::Ending;
+use crate::sampling::Sampling;
 use crate::task::Extraction;
 use bone_words::{Settings, WordsEnd, settings};
 use run_core::RunSettings;
@@ -19,7 +20,7 @@ pub enum Job {
     /// Judge what was written for a text.
     Check(Checking),
     /// Make a formula and run it.
-    Sample,
+    Sample(Sampling),
 }
 
 /// Reads the words after the program's name.
@@ -71,11 +72,19 @@ fn job_of(settings: Settings) -> Job
             witness,
         }),
         Settings::Sample {
-            vars: _vars,
-            clauses: _clauses,
-            workers: _workers,
-            budget: _budget,
-            seed: _seed,
-        } => Job::Sample,
+            vars,
+            clauses,
+            workers,
+            budget,
+            seed,
+        } => Job::Sample(Sampling {
+            vars,
+            clauses,
+            settings: RunSettings {
+                workers,
+                budget,
+                seed,
+            },
+        }),
     }
 }

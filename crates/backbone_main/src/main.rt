@@ -11,6 +11,8 @@ mod note;
 mod open_part;
 mod opening;
 mod reply;
+mod sample_text;
+mod sampling;
 mod serve;
 mod task;
 #[cfg(test)]

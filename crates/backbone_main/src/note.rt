@@ -36,8 +36,8 @@ fn push_note<D: Desk>(desk: &mut D, buffer: &mut PortBuffer, ending: Ending) -> 
         | Ending::Unsatisfiable
         | Ending::Unfinished
         | Ending::Unknown
-        | Ending::Judged(_)
-        | Ending::NotBuilt => Ok(()),
+        | Ending::Sampled
+        | Ending::Judged(_) => Ok(()),
         Ending::OutOfMemory => buffer.push(desk, b"error: out of memory\n"),
         Ending::BadText(fault) => push_fault(desk, buffer, fault),
         Ending::TooLong(feed) => push_named(

@@ -14,6 +14,7 @@ use crate::ending::Ending;
 use crate::extract::{extract, extract_alone};
 use crate::job::{Job, read_words};
 use crate::note::write_note;
+use crate::sampling::{sample, sample_alone};
 use bone_desk::{Desk, Port};
 use chooser_core::Chooser;
 use lrat_log::laws::no_log_is_full;
@@ -28,26 +29,26 @@ use worker_loop::Gate;
 ///
 /// `extract` opens the text first, then the files that are named, the proof's before the witness's. What was found is
 /// written in the order proof, witness, answer. `check` opens the text, the answer, the proof and the witness, the last
-/// where it is named, and reads them in that order. It uses no worker.
+/// where it is named, and reads them in that order. It uses no worker. `sample` opens and reads nothing: it makes a formula
+/// from its numbers, searches it as `extract` does, and writes how large its backbone is.
 ///
 /// | Status | What happened |
 /// |---|---|
-/// | 0 | `check`: the answer, the proof and the witness pass all tests, and that was written |
+/// | 0 | `check`: the answer, the proof and the witness pass all tests; `sample`: the backbone is known. That was written |
 /// | 1 | `check`: the first test that fails was written, and its place |
 /// | 10 | `extract`: the backbone was written: its literals whose variables are shown; before it the files that are named |
 /// | 20 | `extract`: the formula has no model, and that was written; before it the proof, where it is named, and no witness |
-/// | 30 | `extract`: a part of the backbone, with its evidence, and the literals that are still open: every worker spent its budget |
-/// | 31 | `extract`: that nothing is known was written, without evidence: no model was found within the budget |
+/// | 30 | every worker spent its budget: `extract` wrote a part of the backbone, with its evidence, and what is still open |
+/// | 31 | no model was found within the budget, and that nothing is known was written, without evidence |
 /// | 40 | there was too little memory; nothing was written, or by `extract` what was known of the backbone then, or a front of the proof |
 /// | 50 | the text means no formula; nothing was written |
 /// | 51 | a feed has more bytes than are read: 2^27 of a text or an answer, 2^45 of a proof or a witness; nothing was written |
-/// | 52 | `sample`: not built yet; nothing was opened |
 /// | 60 | a feed could not be read; nothing was written |
 /// | 61 | a port could not be written; it has a front of its text, those before it have all, and those behind it nothing |
 /// | 62 | a feed or port that is named could not be opened; nothing was read or written |
 /// | 64 | the words have no settings; nothing was done |
 ///
-/// Where several causes stand together the order is 64, 52, 62, then for the text 60 or 51, whichever came first, and 50.
+/// Where several causes stand together the order is 64, 62, then for the text 60 or 51, whichever came first, and 50.
 /// Then come the end of the run or the tests of `check`, in which 60 and 51 stand at the feed that is read, and 61.
 /// Status 40 may stand at any place, also before 64, since the words are read with memory, and no clause ties it to a
 /// refused growth.
@@ -119,7 +120,7 @@ fn run_threads<R: Threads + Sync, D: Desk, G: Gate>(
     match read_words(alloc, words) {
         Ok(Job::Extract(extraction)) => extract(rt, alloc, &extraction, desk, choosers, gate),
         Ok(Job::Check(checking)) => check(alloc, &checking, desk),
-        Ok(Job::Sample) => Ending::NotBuilt,
+        Ok(Job::Sample(sampling)) => sample(rt, alloc, sampling, desk, choosers, gate),
         Err(ending) => ending,
     }
 }
@@ -137,7 +138,7 @@ fn run_alone<D: Desk>(
     match read_words(alloc, words) {
         Ok(Job::Extract(extraction)) => extract_alone(alloc, &extraction, desk, choosers),
         Ok(Job::Check(checking)) => check(alloc, &checking, desk),
-        Ok(Job::Sample) => Ending::NotBuilt,
+        Ok(Job::Sample(sampling)) => sample_alone(alloc, sampling, desk, choosers),
         Err(ending) => ending,
     }
 }

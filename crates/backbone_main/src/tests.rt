@@ -7,10 +7,11 @@ mod faults;
 mod files;
 mod rows;
 mod runs;
+mod samples;
 mod stand_ins;
 
 use crate::serve::{alone, serve};
-use crate::tests::stand_ins::{How, Kind, Stubborn};
+use crate::tests::stand_ins::{How, Kind, Stubborn, Watched};
 use bone_desk::{Desk, MemDesk};
 use chooser_core::Chooser;
 use choosers::{OrderChooser, QueueChooser};
@@ -66,6 +67,10 @@ fn run_words<R: Threads + Sync, D: Desk, G: Gate>(
             Kind::InOrder => Box::new(alloc, OrderChooser::new())?,
             Kind::Mixed if place % 2 == 0 => Box::new(alloc, QueueChooser::new(alloc))?,
             Kind::Mixed => Box::new(alloc, OrderChooser::new())?,
+            Kind::Watched { asked } if place == 0 => {
+                Box::new(alloc, Watched::new(asked.clone()?))?
+            }
+            Kind::Watched { .. } => Box::new(alloc, OrderChooser::new())?,
             Kind::Stubborn { number, dropped } => Box::new(
                 alloc,
                 Stubborn::new(*number, dropped.clone()?),

@@ -19,6 +19,7 @@ use Rattle.backbone_main.specs.declared.task.Files.{Files}
 use Rattle.backbone_main.specs.declared.task.Task.{Task}
 use Rattle.backbone_main.specs.declared.task.Extraction.{Extraction}
 use Rattle.backbone_main.specs.declared.check.Checking.{Checking}
+use Rattle.backbone_main.specs.declared.sampling.Sampling.{Sampling}
 use Rattle.backbone_main.specs.declared.job.Job.{Job}
 use Rattle.backbone_main.specs.declared.job.Job.TheVariants.{Extract, Check, Sample}
 use Rattle.backbone_main.specs.declared.ending.Ending.{Ending}
@@ -74,7 +75,7 @@ pub record WritesOwn (may : Acts) (ending : Ending) (old new : Told) : Type 0 wh
 
 -- ---- the words
 
--- what an extraction and a check were asked by
+-- what an extraction, a check and a sample were asked by
 abbrev pub asked : Extraction → settings.Extraction
 asked e = record {
   text = string_bytes e.text;
@@ -93,15 +94,20 @@ asked_check c = record {
   witness = option_map string_bytes c.witness;
 }
 
-abbrev pub IsSampling : Wanted → Type 0
-IsSampling (to_sample s) = Unit {0}
-IsSampling wanted = ⊥
+abbrev pub asked_sample : Sampling → settings.Sampling
+asked_sample s = record {
+  vars = s.vars;
+  clauses = s.clauses;
+  workers = s.settings.workers;
+  budget = s.settings.budget;
+  seed = s.settings.seed;
+}
 
 -- the job is what is wanted
 abbrev pub IsJob : Wanted → Job → Type 0
 IsJob wanted (Extract e) = wanted ≡ to_extract (asked e)
 IsJob wanted (Check c) = wanted ≡ to_check (asked_check c)
-IsJob wanted Sample = IsSampling wanted
+IsJob wanted (Sample s) = wanted ≡ to_sample (asked_sample s)
 
 abbrev pub IsJobOf : Option Wanted → Job → Type 0
 IsJobOf None job = ⊥
@@ -120,9 +126,20 @@ pub record HasLimits (e : Extraction) : Type 0 where
   pub some_budget : 1 ≤ e.settings.budget
   pub most_budget : e.settings.budget ≤ 2 ^ 40
 
+-- a sample has numbers that make a formula, workers, and a budget for each
+pub record HasSampleLimits (s : Sampling) : Type 0 where
+  pub some_vars : 3 ≤ s.vars
+  pub most_vars : s.vars ≤ 2 ^ 20
+  pub most_clauses : s.clauses ≤ 2 ^ 21
+  pub some_workers : 1 ≤ s.settings.workers
+  pub most_workers : s.settings.workers ≤ 16
+  pub some_budget : 1 ≤ s.settings.budget
+  pub most_budget : s.settings.budget ≤ 2 ^ 40
+
 abbrev pub HasJobLimits : Job → Type 0
 HasJobLimits (Extract e) = HasLimits e
-HasJobLimits job = Unit {0}
+HasJobLimits (Check c) = Unit {0}
+HasJobLimits (Sample s) = HasSampleLimits s
 
 -- ---- an extraction
 

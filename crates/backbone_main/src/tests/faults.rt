@@ -74,12 +74,14 @@ fn each_fault_has_its_status_and_its_note(rt: HostRuntime) -> Result<(), Fail> {
 #[test]
 fn words_without_a_meaning_give_the_usage_alone(rt: HostRuntime) -> Result<(), Fail> {
     let alloc = rt.alloc();
-    let lists: [&[&str]; 6] = [
+    let lists: [&[&str]; 8] = [
         &[],
         &["extract", "a", "b"],
         &["extract", "--workers", "17", "f"],
         &["extract", "--help"],
         &["check", "f"],
+        &["sample", "f"],
+        &["sample", "--vars=2"],
         &["Extract", "f"],
     ];
     for list in lists {
@@ -89,17 +91,6 @@ fn words_without_a_meaning_give_the_usage_alone(rt: HostRuntime) -> Result<(), F
             assert_eq!(rt; desk.calls, 1);
             assert!(rt; desk.out_answer.is_empty());
         }
-    }
-    Ok(())
-}
-
-#[test]
-fn what_is_not_built_is_left_untouched(rt: HostRuntime) -> Result<(), Fail> {
-    let alloc = rt.alloc();
-    for (number, desk) in run_both(&rt, alloc, &["sample"], CHAIN, 64)? {
-        assert_eq!(rt; number, 52);
-        assert_eq!(rt; desk.calls, 0);
-        assert!(rt; desk.out_answer.is_empty() && desk.out_notes.is_empty());
     }
     Ok(())
 }

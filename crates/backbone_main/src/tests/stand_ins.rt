@@ -64,6 +64,51 @@ impl Stubborn {
     }
 }
 
+/// Picks the least variable without a value, and tells at its end how often it was asked.
+pub struct Watched {
+    count: u64,
+    told: Arc<AtomicU64>,
+}
+
+impl Drop for Watched {
+    fn drop(self) {
+        let Watched { count, told } = self;
+        told.fetch_add(count, SeqCst);
+    }
+}
+
+impl Chooser for Watched {
+    ghost asks = { λ s. s.count };
+
+    fn begin(&mut self, _vars: u32, _seed: u64) -> Result<(), NoMemory> {
+        self.count = 0;
+        Ok(())
+    }
+
+    fn pick(&mut self, values: &[i8], free: u32) -> u32
+        requires { IsLeastFree values.now free }
+        ensures { self.new.count ≡ once_more self.old.count }
+    {
+        self.count = self.count.saturating_add(1);
+        free
+    }
+
+    fn bump(&mut self, _var: u32) {}
+
+    fn freed(&mut self, _var: u32) {}
+
+    fn asked(&self) -> u64 {
+        self.count
+    }
+}
+
+impl Watched {
+    /// One that wasn't asked yet.
+    pub fn new(told: Arc<AtomicU64>) -> Watched {
+        Watched { count: 0, told }
+    }
+}
+
 /// Which choosers a run has.
 #[derive(Drop)]
 pub enum Kind {
@@ -71,6 +116,10 @@ pub enum Kind {
     InOrder,
     /// At the even places what conflicts met last, at the others the least variable without a value.
     Mixed,
+    /// The least variable without a value; how often the first of them was asked is told.
+    Watched {
+        asked: Arc<AtomicU64>,
+    },
     /// Always this number, counted where they are dropped.
     Stubborn {
         number: u32,
