@@ -70,7 +70,7 @@ fn walked(
         return Err("no model".into());
     }
     let occurrences = Occurrences::new(alloc, formula, first)?;
-    let mut walker = Walker::new(alloc, vars)?;
+    let mut walker = Walker::new(alloc, formula)?;
     let rest = walker.walk(&occurrences, &mut left, candidates);
     let _ = shared(&occurrences);
     let _ = shared(&walker);
