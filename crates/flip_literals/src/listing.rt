@@ -19,11 +19,7 @@ pub(crate) struct Lists {
 
 impl Lists {
     /// The lists for the literals that `first` makes true.
-    pub(crate) fn new(
-        alloc: Global,
-        formula: &Formula,
-        first: &Values,
-    ) -> Result<Lists, NoMemory>
+    pub(crate) fn new(alloc: Global, formula: &Formula, first: &Values) -> Result<Lists, NoMemory>
         requires { length first.now ≡ formula.now.vars }
         ensures { IfOk result (λ lists. IsIndex formula.now first.now lists.starts.items lists.places.items) }
     {
@@ -47,11 +43,7 @@ impl Lists {
 
 /// How often the true literal of each variable stands in the clauses, with a 0 before the first variable
 /// and one behind the last.
-fn counted(
-    alloc: Global,
-    formula: &Formula,
-    first: &Values,
-) -> Result<Vec<u32>, NoMemory>
+fn counted(alloc: Global, formula: &Formula, first: &Values) -> Result<Vec<u32>, NoMemory>
     requires { length first.now ≡ formula.now.vars }
     ensures counted { IfOk result (λ counts. IsCounted formula.now first.now (length formula.now.clauses) 0 counts.items) }
     ensures total { IfOk result (λ counts. sum_by (λ n. n) counts.items ≤ 2 ^ 23) }

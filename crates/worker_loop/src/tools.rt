@@ -52,7 +52,7 @@ impl<'f> Tools<'f> {
             loaded: vec![in alloc; 0; groups]?,
             rooted: vec![in alloc; 0; groups]?,
             marks: Marks::new(alloc, vars)?,
-            walker: Walker::new(alloc, question.formula())?,
+            walker: question.walker(alloc)?,
         })
     }
 
