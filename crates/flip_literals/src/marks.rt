@@ -15,13 +15,11 @@ pub struct Marks {
 }
 
 impl Model for Marks {
-    ghost use Rattle.std.specs.Prelude.{List, Bool, ◌<◌, ◌^◌, length};
+    ghost use Rattle.std.specs.Prelude.{List, Bool};
 
     ghost Value = { List Bool };
 
     ghost view = { λ m. m.marked.items };
-
-    ghost invariant = { λ m. length m.marked.items < 2 ^ 32 };
 }
 
 impl Marks {
@@ -45,9 +43,9 @@ impl Marks {
     /// Whether there is a variable behind so many, and it is marked.
     pub(crate) fn has(&self, index: u32) -> bool
         ensures marked { IsTrue result → (index < length self.now) × IsTrue (value_of self.now (index + 1)) }
-        ensures limit { length self.now < 2 ^ 32 }
+        ensures limit { IsTrue result → index + 1 < 2 ^ 32 }
     {
-        matches!(self.marked.get(index as usize), Some(true))
+        index < u32::MAX && matches!(self.marked.get(index as usize), Some(true))
     }
 
     /// Marks these variables, and no others.
