@@ -28,6 +28,7 @@ differences-most (false ∷ first) (false ∷ a) = omega (arith, differences-mos
 pub made_before : (n : ℕ) (h k : Holds) → IsMade n h → IsAsBefore h k → IsMade n k
 made_before n h k made same = record {
   each = same.each ∙ made.each;
+  begins = same.begins ∙ made.begins;
   marks = ap length same.listed ∙ made.marks;
   vars = rw same.flipped made.vars;
   room = rw same.flipped made.room;
@@ -55,7 +56,7 @@ work-none o h k a holding same = record {
 }
 
 before_itself : (h : Holds) → IsAsBefore h h
-before_itself h = record { each = refl; listed = refl; flipped = refl }
+before_itself h = record { each = refl; begins = refl; listed = refl; flipped = refl }
 
 pub work-same : (o : Listing) (h : Holds) (a : Assignment) → IsHolding o h a → IsWork o h a h a
 work-same o h a holding = work-none o h h a holding (before_itself h)
@@ -125,9 +126,10 @@ marked-more marks vs i v so_far below is low w listed =
 
 -- one variable more waits
 pub flip-pushed : (o : Listing) (h k m : Holds) (a b : Assignment) (v : ℕ) → IsHolding o h a → IsAsBefore h k
-    → IsFlipped o v a b → 0 < v → v ≤ o.formula.vars → length m.holders.items ≡ length k.holders.items → m.listed ≡ k.listed
+    → IsFlipped o v a b → 0 < v → v ≤ o.formula.vars → length m.holders.items ≡ length k.holders.items
+    → length m.begins.items ≡ length k.begins.items → m.listed ≡ k.listed
     → m.flipped.items ≡ k.flipped.items ++ v ∷ [] → vec_capacity m.flipped ≡ vec_capacity k.flipped → IsFlip o h a m b
-flip-pushed o h k m a b v holding same flip low high each listed items room =
+flip-pushed o h k m a b v holding same flip low high each begins listed items room =
     let kept = holding_before o h k a holding same in
     let long : length m.flipped.items ≡ length k.flipped.items + 1 = omega (arith, ap (λ (vs : List ℕ). length vs) items, length-append k.flipped.items (v ∷ [])) in
     let was : length k.flipped.items ≡ length h.flipped.items = ap (λ (f : _). length f.items) same.flipped in
@@ -135,6 +137,7 @@ flip-pushed o h k m a b v holding same flip low high each listed items room =
       holding = record {
         made = record {
           each = each ∙ kept.made.each;
+          begins = begins ∙ kept.made.begins;
           marks = ap length listed ∙ kept.made.marks;
           vars = rw items (All-push (λ (w : ℕ). (0 < w) × (w ≤ o.formula.vars)) k.flipped.items v kept.made.vars (low, high));
           room = omega (arith, room, kept.made.room);
@@ -165,13 +168,14 @@ last_var n rest v all = All-contains (λ (w : ℕ). (0 < w) × (w ≤ n)) (rest 
 
 -- one variable less waits
 pub work-popped : (o : Listing) (h k m : Holds) (a b : Assignment) (rest : List ℕ) (v : ℕ) → IsWork o h a k b
-    → m.holders ≡ k.holders → m.listed ≡ k.listed → k.flipped.items ≡ rest ++ v ∷ [] → m.flipped.items ≡ rest
+    → m.holders ≡ k.holders → m.begins ≡ k.begins → m.listed ≡ k.listed → k.flipped.items ≡ rest ++ v ∷ [] → m.flipped.items ≡ rest
     → vec_capacity m.flipped ≡ vec_capacity k.flipped → IsWork o h a m b
-work-popped o h k m a b rest v work holders listed was is room = record {
+work-popped o h k m a b rest v work holders begins listed was is room = record {
   flip = record {
     holding = record {
       made = record {
         each = ap (λ (f : _). length f.items) holders ∙ work.flip.holding.made.each;
+        begins = ap (λ (f : _). length f.items) begins ∙ work.flip.holding.made.begins;
         marks = ap length listed ∙ work.flip.holding.made.marks;
         vars = rw is (popped_vars o.formula.vars rest v (rw was at work.flip.holding.made.vars));
         room = omega (arith, room, work.flip.holding.made.room);

@@ -21,6 +21,8 @@ const NONE: u32 = u32::MAX;
 pub(crate) struct Holds {
     /// For each variable the place of the clause that held it last.
     pub holders: Vec<u32>,
+    /// For each variable where that clause stands in its list.
+    pub begins: Vec<usize>,
     /// For each clause the variable that it held last, counted from 0, until a flip made it true.
     pub held: Vec<u32>,
     /// The candidates of the walk.
@@ -37,6 +39,7 @@ impl Holds {
         let vars = formula.vars();
         Ok(Holds {
             holders: vec![in alloc; NONE; vars as usize]?,
+            begins: vec![in alloc; 0usize; vars as usize]?,
             held: vec![in alloc; NONE; formula.clauses().len()]?,
             listed: Marks::new(alloc, vars)?,
             flipped: Vec::with_capacity(alloc, vars as usize)?,
@@ -160,9 +163,10 @@ impl Holds {
             self.hold(last, var);
             return true;
         }
-        match occurrences.holder(model, var) {
-            Some(place) => {
-                self.hold(place, var);
+        match occurrences.holder(model, var, self.begins[var as usize - 1]) {
+            Some(holder) => {
+                self.begins[var as usize - 1] = holder.at;
+                self.hold(holder.place, var);
                 true
             }
             None => false,

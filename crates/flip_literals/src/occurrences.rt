@@ -3,7 +3,7 @@ ghost use Rattle.cnf_core.specs.Literals.{value_of, is_true as is_true_in, claus
 ghost use Rattle.cnf_core.specs.Formulas.{IsFormula, IsModel};
 ghost use Rattle.model_check.specs.Flips.{flipped};
 ghost use Rattle.flip_literals.specs.Listings.{clause_at, ListsPlaces};
-ghost use Rattle.flip_literals.specs.Steps.Listed.{IsOpposite, ListsOthers};
+ghost use Rattle.flip_literals.specs.Steps.Listed.{IsOpposite, ListsOthers, IsAround};
 
 use crate::flat::FlatClauses;
 use crate::listing::Lists;
@@ -11,6 +11,15 @@ use cnf_core::{Formula, Lit, NoMemory, Values};
 use model_check::is_true;
 use std::alloc::Global;
 use std::marker::Model;
+
+/// A clause that rests on a variable alone.
+#[derive(Clone, Copy, Debug)]
+pub(crate) struct Holder {
+    /// Where it stands in the variable's list.
+    pub at: usize,
+    /// Its place in the formula.
+    pub place: u32,
+}
 
 /// For each variable the places of the clauses in which the literal of it stands that is true in one
 /// assignment, and of those in which the opposite one stands. It has its own copy of the clauses, with the
@@ -82,19 +91,26 @@ impl<'f> Occurrences<'f> {
         ensures critical { IsTrue result ↔ (IsModel self.now.formula (flipped model.now var) → ⊥) }
         ensures free { result ≡ false → IsModel self.now.formula (flipped model.now var) }
     {
-        self.holder(model, var).is_some()
+        self.holder(model, var, 0).is_some()
     }
 
-    /// The place of a clause that rests on the variable alone, if there is one.
-    pub(crate) fn holder(&self, model: &Values, var: u32) -> Option<u32>
+    /// A clause that rests on the variable alone, if there is one: the first from a place of the variable's list on, and
+    /// behind the last one from the first on.
+    pub(crate) fn holder(&self, model: &Values, var: u32, from: usize) -> Option<Holder>
         requires model { IsModel self.now.formula model.now }
         requires within { (0 < var) × (var ≤ self.now.formula.vars) }
         requires first { value_of model.now var ≡ value_of self.now.first var }
         ensures { MatchOption result (IsModel self.now.formula (flipped model.now var)) (λ _. IsModel self.now.formula (flipped model.now var) → ⊥) }
     {
-        for place in self.places(var) {
-            if !is_true_flipped(self.clause(*place), model, var) {
-                return Some(*place);
+        let places = self.places(var);
+        let from = start(from, places.len());
+        for step in 0..places.len() {
+            let at = around(from, step, places.len());
+            if !is_true_flipped(self.clause(places[at]), model, var) {
+                return Some(Holder {
+                    at,
+                    place: places[at],
+                });
             }
         }
         None
@@ -156,4 +172,23 @@ fn opposites(alloc: Global, first: &Values) -> Result<Values, NoMemory>
         values.set(var, !first.get(var));
     }
     Ok(values)
+}
+
+/// Where to begin in a list of so many: at a place, or at the first where it has no such place.
+fn start(from: usize, count: usize) -> usize
+    ensures { 0 < count → result < count }
+{
+    if from < count { from } else { 0 }
+}
+
+/// So many steps on from a place of a list of so many, behind its last one from the first on.
+fn around(from: usize, step: usize, count: usize) -> usize
+    requires { (from < count) × (step < count) }
+    ensures { IsAround from step count result }
+{
+    if step < count - from {
+        from + step
+    } else {
+        step - (count - from)
+    }
 }

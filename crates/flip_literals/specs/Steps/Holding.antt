@@ -11,6 +11,7 @@ use Rattle.flip_literals.specs.declared.holds.Holds.{Holds}
 -- made for so many variables
 pub record IsMade (n : ℕ) (h : Holds) : Type 0 where
   pub each : length h.holders.items ≡ n
+  pub begins : length h.begins.items ≡ n
   pub marks : length h.listed ≡ n
   pub vars : AreVars n h.flipped.items
   pub room : n ≤ vec_capacity h.flipped
@@ -24,6 +25,7 @@ pub record IsHolding (o : Listing) (h : Holds) (a : Assignment) : Type 0 where
 -- only what held what has changed
 pub record IsAsBefore (h k : Holds) : Type 0 where
   pub each : length k.holders.items ≡ length h.holders.items
+  pub begins : length k.begins.items ≡ length h.begins.items
   pub listed : k.listed ≡ h.listed
   pub flipped : k.flipped ≡ h.flipped
 

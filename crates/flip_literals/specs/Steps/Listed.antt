@@ -1,5 +1,5 @@
 -- The making of the lists: counted, summed up, filled.
-use Rattle.std.specs.Prelude.{◌≡◌, ℕ, ◌+◌, ◌-◌, ◌<◌, ◌≤◌, ◌&&◌, nat_eq, not, if◌then◌else◌, List, length, Contains, take, drop, slice_index}
+use Rattle.std.specs.Prelude.{◌≡◌, ℕ, ◌+◌, ◌-◌, ◌<◌, ◌≤◌, ◌⊎◌, ◌&&◌, nat_eq, not, if◌then◌else◌, List, length, Contains, take, drop, slice_index}
 use Rattle.std.specs.List.{sum_by}
 use Rattle.cnf_core.specs.Literals.{Literal, Literals, Assignment, value_of, is_true}
 use Rattle.cnf_core.specs.Formulas.{Cnf, IsFormula, true_literal, literal_count}
@@ -97,3 +97,8 @@ pub record ListsOthers (o : Listing) (v : ℕ) (places : List ℕ) : Type 0 wher
   pub second : Assignment
   pub opposite : IsOpposite o.first second
   pub lists : ListsPlaces (record { formula = o.formula; first = second }) v places
+
+-- so many steps on from a place, in a list of so many that goes on from its first
+pub record IsAround (start step count at : ℕ) : Type 0 where
+  pub within : at < count
+  pub is : (at ≡ start + step) ⊎ (at + count ≡ start + step)

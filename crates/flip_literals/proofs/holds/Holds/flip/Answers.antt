@@ -28,4 +28,4 @@ returns-clause-flip c =
     c.first.ensures.each c.requires.var.0 c.requires.var.1 c.get-value.ensures c.first.ensures.value c.if-value-first.false
     (c.is_held.ensures.free c.if-is_held.false) c.set.ensures in
     flip-pushed o c.args.self.now c.is_held.new.self (record c.is_held.new.self { flipped = c.push_reserved.new.self }) c.args.model.now c.set.new.self c.args.var c.requires.holding c.is_held.ensures.same told
-    c.requires.var.0 c.requires.var.1 refl refl c.push_reserved.ensures.items c.push_reserved.ensures.capacity
+    c.requires.var.0 c.requires.var.1 refl refl refl c.push_reserved.ensures.items c.push_reserved.ensures.capacity

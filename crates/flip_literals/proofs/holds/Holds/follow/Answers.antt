@@ -15,6 +15,6 @@ loop-var-preserved c =
     let k = c.loop-var.self in
     let m = record c.loop-var.self { flipped = c.pop.new.self } in
     let popped : IsWork o h c.args.model.now m c.loop-var.model =
-    work-popped o h k m c.args.model.now c.loop-var.model c.pop.new.self.items c.in-Some.var c.loop-var.invariant refl refl
+    work-popped o h k m c.args.model.now c.loop-var.model c.pop.new.self.items c.in-Some.var c.loop-var.invariant refl refl refl
     c.in-Some.ensures.items refl c.in-Some.ensures.capacity in
     work-more o h m c.look_behind.new.self c.args.model.now c.loop-var.model c.look_behind.new.model popped c.look_behind.ensures
