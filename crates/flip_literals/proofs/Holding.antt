@@ -1,5 +1,5 @@
 -- Steps of a walk joined, and how many variables wait.
-use Rattle.std.proofs.Common.{◌≡◌, ◌≢◌, ℕ, ◌+◌, ◌-◌, ◌*◌, ◌<◌, ◌≤◌, Bool, true, false, not, List, [], ◌∷◌, ◌++◌, length, All, Contains, take, get_or, IsTrue, refl, sym, ap, ◌∙◌, subst, ⊎_elim, length-set, length-append, arith}
+use Rattle.std.proofs.Common.{◌≡◌, ◌≢◌, ℕ, ◌+◌, ◌-◌, ◌*◌, ◌<◌, ◌≤◌, Bool, true, false, not, List, [], ◌∷◌, ◌++◌, length, Contains, take, get_or, IsTrue, refl, sym, ap, ◌∙◌, subst, ⊎_elim, length-set, length-append, arith}
 use mathlib.Core.Bool.{beq}
 use Rattle.std.proofs.lemmas.Bool.{cases_eq, true≢false}
 use Rattle.std.proofs.lemmas.List.{take_more, get_or_append_left}
@@ -11,7 +11,7 @@ use Rattle.model_check.specs.Flips.{flipped}
 use Rattle.flip_literals.specs.declared.holds.Holds.{Holds}
 use Rattle.flip_literals.specs.Listings.{Listing}
 use Rattle.flip_literals.specs.Walks.{AreVars, IsWalked, differences}
-use Rattle.flip_literals.specs.Steps.Passes.{Tells, IsFlipped, IsHeld}
+use Rattle.flip_literals.specs.Steps.Passes.{Tells, IsFlipped}
 use Rattle.flip_literals.specs.Steps.Marking.{IsListed, IsMarkedIn}
 use Rattle.flip_literals.specs.Steps.Holding.{IsMade, IsHolding, IsAsBefore, IsFlip, IsWork}
 use Rattle.flip_literals.proofs.Walked.{walked-same, walked-more, walked-flip, flips, IsPassing}

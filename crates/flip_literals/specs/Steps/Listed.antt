@@ -1,5 +1,5 @@
 -- The making of the lists: counted, summed up, filled.
-use Rattle.std.specs.Prelude.{◌≡◌, ℕ, ◌+◌, ◌-◌, ◌<◌, ◌≤◌, ◌⊎◌, ◌&&◌, nat_eq, not, if◌then◌else◌, List, length, Contains, take, drop, slice_index}
+use Rattle.std.specs.Prelude.{◌≡◌, ℕ, ◌+◌, ◌-◌, ◌<◌, ◌≤◌, ◌⊎◌, ◌&&◌, nat_eq, not, if◌then◌else◌, List, length, Contains, take, slice_index}
 use Rattle.std.specs.List.{sum_by}
 use Rattle.cnf_core.specs.Literals.{Literal, Literals, Assignment, value_of, is_true}
 use Rattle.cnf_core.specs.Formulas.{Cnf, IsFormula, true_literal, literal_count}

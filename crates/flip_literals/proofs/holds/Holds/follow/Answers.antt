@@ -1,5 +1,5 @@
 -- One variable less waits, and what its clauses free is looked at.
-use Rattle.std.proofs.Common.{refl, length, arith}
+use Rattle.std.proofs.Common.{refl}
 use Rattle.flip_literals.specs.Steps.Holding.{IsWork}
 use Rattle.flip_literals.proofs.Holding.{work-popped, work-more, follow-smaller}
 use Rattle.flip_literals.proofs.holds.Holds.follow.Goals as goal

@@ -3,8 +3,7 @@ use Rattle.std.proofs.Common.{◌≡◌, ◌+◌, ◌<◌, ◌≤◌, ℕ, Bool,
 use Rattle.std.proofs.lemmas.List.Elements.{All-get_or, Contains-get_or}
 use Rattle.flip_literals.specs.Steps.Passes.{Tells, IsFlipped, IsHeld}
 use Rattle.flip_literals.specs.Steps.Marking.{IsMarkedIn}
-use Rattle.flip_literals.specs.Steps.Holding.{IsHolding}
-use Rattle.flip_literals.proofs.Walked.{passing-start, passing-flipped, passing-held, passed, IsPassing}
+use Rattle.flip_literals.proofs.Walked.{passing-flipped, passing-held, passed, IsPassing}
 use Rattle.flip_literals.proofs.Holding.{passing-worked}
 use Rattle.flip_literals.proofs.holds.Holds.pass.Goals as goal
 use Rattle.flip_literals.proofs.holds.Holds.pass.Goals.{then-flip, else-flip}

@@ -1,7 +1,4 @@
 -- The part between two starts has just the variable's places.
-use Rattle.std.proofs.Common.{◌-◌, take, drop, subst, sym}
-use Rattle.std.proofs.Common.{ℕ, List}
-use Rattle.flip_literals.specs.Listings.{ListsPlaces}
 use Rattle.flip_literals.proofs.Filled.{index_places}
 use Rattle.flip_literals.proofs.listing.Lists.get.Goals as goal
 

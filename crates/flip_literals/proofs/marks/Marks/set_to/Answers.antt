@@ -1,5 +1,5 @@
 -- One variable more is marked.
-use Rattle.std.proofs.Common.{ℕ, ◌-◌, ◌<◌, ◌≤◌, true, get_or, refl, ap, ◌∙◌, length, length-set}
+use Rattle.std.proofs.Common.{ℕ, ◌-◌, ◌<◌, ◌≤◌, true, get_or, refl, ◌∙◌, length, length-set}
 use Rattle.std.proofs.lemmas.List.Elements.{All-get_or}
 use Rattle.flip_literals.proofs.Holding.{marked-more}
 use Rattle.flip_literals.proofs.marks.Marks.set_to.Goals as goal

@@ -1,5 +1,5 @@
 -- Each clause that is looked at has the variable's literal; one that fails after the flip leaves no model.
-use Rattle.std.proofs.Common.{◌≡◌, ℕ, [], get_or, sym, ap, ◌∙◌, subst, ⊎_elim, IsTrue, arith}
+use Rattle.std.proofs.Common.{◌≡◌, ℕ, [], get_or, sym, ap, ◌∙◌, subst, ⊎_elim, IsTrue}
 use Rattle.std.proofs.lemmas.List.Elements.{All-get_or}
 use Rattle.cnf_core.specs.Literals.{clause_true, AreWithin}
 use Rattle.model_check.specs.Flips.{flipped}

@@ -1,5 +1,5 @@
 -- The clauses looked at so far don't rest on the variable.
-use Rattle.std.proofs.Common.{ℕ, ◌<◌, IsTrue, length, get_or}
+use Rattle.std.proofs.Common.{ℕ, IsTrue, length, get_or}
 use Rattle.cnf_core.specs.Literals.{clause_true}
 use Rattle.model_check.specs.Flips.{flipped}
 use Rattle.flip_literals.specs.Listings.{clause_at}

@@ -1,5 +1,5 @@
 -- Each pass so far flipped a candidate.
-use Rattle.std.proofs.Common.{◌≡◌, ◌+◌, ◌≤◌}
+use Rattle.std.proofs.Common.{◌+◌, ◌≤◌}
 use Rattle.flip_literals.specs.Walks.{IsWalked, differences}
 use Rattle.flip_literals.specs.Steps.Marking.{IsMarkedIn}
 use Rattle.flip_literals.specs.Steps.Holding.{IsHolding}
