@@ -1,8 +1,9 @@
 #!/usr/bin/env bash
-# What walks over a model cost: of a chain of implications, all true, walked from its last variable on, so that each
-# of the 100 passes flips one variable and finds all others held; and on a formula of 2,000,000 clauses of three
-# literals over 500,000 variables, against the one pass for the critical variables. It runs the program of
-# crates/flip_bench as its last proof built it, and prints processor times by the least of five runs.
+# What walks over a model cost: of a chain of implications, all true, walked from its last variable on, so that the
+# last candidate of the first pass is the first to be flipped, which frees all others, one after another; and on a
+# formula of 2,000,000 clauses of three literals over 500,000 variables, against the one pass for the critical
+# variables. It runs the program of crates/flip_bench as its last proof built it, and prints processor times by the
+# least of five runs.
 set -eu
 cd "$(dirname "$0")/.."
 
@@ -42,7 +43,7 @@ echo "cores: $(nproc)"
 for vars in 65536 131072 262144 524288 1048576; do
     round=$(per_round chain "$vars" "$vars")
     awk -v n="$vars" -v t="$round" \
-        'BEGIN { printf "chain of %d: %d microseconds a walk of 100 passes, %.1f nanoseconds a candidate and pass\n", n, t, t * 10 / n }'
+        'BEGIN { printf "chain of %d: %d microseconds a walk, %.0f nanoseconds a candidate\n", n, t, t * 1000 / n }'
 done
 for task in critical singles occurrences walk; do
     echo "$task: $(per_round "$task" 500000 2000000) microseconds a round"

@@ -133,7 +133,7 @@ fn count_flips(
         candidates.reverse();
     }
     let occurrences = Occurrences::new(alloc, formula, model)?;
-    let mut walker = Walker::new(alloc, vars)?;
+    let mut walker = Walker::new(alloc, formula)?;
     let mut count = 0;
     for _round in 0..rounds {
         let mut left = model.copy()?;

@@ -1,6 +1,6 @@
 -- A flip by the clauses in which the variable's true literal stands: all others keep the literal that they had.
-use Rattle.std.proofs.Common.{◌≡◌, ◌≢◌, ℕ, ◌-◌, ◌<◌, false, not, IsTrue, List, [], length, All, Contains, get_or, sym, ap, ◌∙◌, subst, ⊎_elim, length-set}
-use Rattle.std.proofs.lemmas.Bool.{cases_eq, both_ways}
+use Rattle.std.proofs.Common.{◌≡◌, ◌≢◌, ℕ, ◌+◌, ◌-◌, ◌<◌, ◌≤◌, ◌⊎◌, inl, inr, arith, false, not, IsTrue, List, [], length, All, Contains, get_or, sym, ap, ◌∙◌, subst, ⊎_elim, length-set}
+use Rattle.std.proofs.lemmas.Bool.{cases_eq, cases_lt, both_ways}
 use Rattle.std.proofs.lemmas.List.{get_or_default}
 use Rattle.std.proofs.lemmas.List.Elements.{All-contains, Contains-get_or}
 use Rattle.cnf_core.specs.Literals.{Literal, Literals, Assignment, value_of, is_true, clause_true, IsWithin, AreWithin}
@@ -9,6 +9,7 @@ use Rattle.cnf_core.proofs.Lists.{passes_of_list_all, list_all_of_members, membe
 use Rattle.cnf_core.proofs.Truth.{literal_of, value_of-with_value_other, is_true_same, true_literal_of_is_true}
 use Rattle.model_check.specs.Flips.{flipped}
 use Rattle.flip_literals.specs.Listings.{Listing, clause_at, StandsAt, ListsPlaces}
+use Rattle.flip_literals.specs.Steps.Listed.{IsAround}
 
 -- the clause at the place of a member
 clause_of_member : (F : Cnf) (c : Literals) (here : Contains F.clauses c) → clause_at F here.0 ≡ c
@@ -72,3 +73,41 @@ places_hold o v places b lists each p stands =
     let here = (lists p).1 stands in
     let is : get_or places here.0 0 ≡ p = sym (get_or_default places here.0 p 0 here.1) ∙ here.2 in
     subst (λ q. IsTrue (clause_true b (clause_at o.formula q))) is (each here.0 here.1)
+
+-- a place of a list of so many was reached by so many steps from the first one on
+pub record HasCome (start step count k : ℕ) : Type 0 where
+  pub within : k < count
+  pub come : ((start ≤ k) × (k < start + step)) ⊎ (k + count < start + step)
+
+pub come-more : (start step count at k : ℕ) → IsAround start step count at → HasCome start (step + 1) count k
+    → (k ≡ at) ⊎ HasCome start step count k
+come-more start step count at k around come =
+    ⊎_elim
+    (λ (same : k ≡ at). inl same)
+    (λ (other : k ≢ at). inr (record { within = come.within; come = earlier other }))
+    (cases_eq k at)
+  where
+    earlier : k ≢ at → ((start ≤ k) × (k < start + step)) ⊎ (k + count < start + step)
+    earlier other =
+        ⊎_elim
+        (λ (own : (start ≤ k) × (k < start + (step + 1))).
+        ⊎_elim
+        (λ (straight : at ≡ start + step). inl (own.0, omega (arith, own.1, straight, other)))
+        (λ (turned : at + count ≡ start + step). inl (own.0, omega (arith, own.1, turned, come.within)))
+        around.is)
+        (λ (passed : k + count < start + (step + 1)).
+        ⊎_elim
+        (λ (straight : at ≡ start + step). inr (omega (arith, passed, straight, around.within)))
+        (λ (turned : at + count ≡ start + step). inr (omega (arith, passed, turned, other)))
+        around.is)
+        come.come
+
+pub come-all : (start step count k : ℕ) → count ≤ step → k < count → HasCome start step count k
+come-all start step count k all below = record {
+  within = below;
+  come =
+      ⊎_elim
+      (λ (before : k < start). inr (omega (arith, all, before)))
+      (λ (behind : start ≤ k). inl (behind, omega (arith, all, below)))
+      (cases_lt k start);
+}

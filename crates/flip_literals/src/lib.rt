@@ -4,6 +4,7 @@
 
 mod flat;
 mod flips;
+mod holds;
 mod listing;
 mod marks;
 mod occurrences;

@@ -1,19 +1,49 @@
 ghost use Rattle.std.specs.Prelude.{◌≡◌, ◌+◌, ◌<◌, ◌≤◌, ◌^◌, IfOk, length, replicate};
 ghost use Rattle.std.specs.List.{sum_by};
 ghost use Rattle.cnf_core.specs.Formulas.{IsFormula};
-ghost use Rattle.flip_literals.specs.Steps.Listed.{IsCounted, IsSummed, IsFilled};
+ghost use Rattle.flip_literals.specs.Steps.Listed.{IsCounted, IsSummed, IsFilled, IsIndex, HasPart, IsPart};
 
 use cnf_core::{Formula, NoMemory, Values};
 use model_check::is_true;
 use std::alloc::Global;
 
+/// For each variable the places of the clauses in which the literal of it stands that is true in one assignment.
+#[derive(Debug, Drop)]
+pub(crate) struct Lists {
+    /// Where the list of each variable begins, which ends where the next one begins. Nothing is listed for
+    /// the entry 0.
+    pub starts: Vec<u32>,
+    /// The lists, one behind the other.
+    pub places: Vec<u32>,
+}
+
+impl Lists {
+    /// The lists for the literals that `first` makes true.
+    pub(crate) fn new(alloc: Global, formula: &Formula, first: &Values) -> Result<Lists, NoMemory>
+        requires { length first.now ≡ formula.now.vars }
+        ensures { IfOk result (λ lists. IsIndex formula.now first.now lists.starts.items lists.places.items) }
+    {
+        let mut starts = counted(alloc, formula, first)?;
+        let total = sum_up(&mut starts);
+        let mut places = vec![in alloc; 0u32; total as usize]?;
+        fill(formula, first, &mut starts, &mut places);
+        Ok(Lists { starts, places })
+    }
+
+    /// The list of a variable.
+    pub(crate) fn get(&self, var: u32) -> &[u32]
+        requires { HasPart self.now.starts.items self.now.places.items var }
+        ensures { IsPart self.now.starts.items self.now.places.items var result.now }
+    {
+        let start = self.starts[var as usize] as usize;
+        let end = self.starts[var as usize + 1] as usize;
+        &self.places[start..end]
+    }
+}
+
 /// How often the true literal of each variable stands in the clauses, with a 0 before the first variable
 /// and one behind the last.
-pub(crate) fn counted(
-    alloc: Global,
-    formula: &Formula,
-    first: &Values,
-) -> Result<Vec<u32>, NoMemory>
+fn counted(alloc: Global, formula: &Formula, first: &Values) -> Result<Vec<u32>, NoMemory>
     requires { length first.now ≡ formula.now.vars }
     ensures counted { IfOk result (λ counts. IsCounted formula.now first.now (length formula.now.clauses) 0 counts.items) }
     ensures total { IfOk result (λ counts. sum_by (λ n. n) counts.items ≤ 2 ^ 23) }
@@ -40,7 +70,7 @@ fn count_clause(formula: &Formula, first: &Values, place: usize, counts: &mut Ve
 }
 
 /// Puts in place of each count the sum of all up to it, and answers the sum of all.
-pub(crate) fn sum_up(counts: &mut Vec<u32>) -> u32
+fn sum_up(counts: &mut Vec<u32>) -> u32
     requires { sum_by (λ n. n) counts.old.items < 2 ^ 32 }
     ensures { IsSummed counts.old.items counts.new.items result }
 {
@@ -54,7 +84,7 @@ pub(crate) fn sum_up(counts: &mut Vec<u32>) -> u32
 
 /// Puts the places into the lists. Each list ends where its variable's entry says; at the end the entry says
 /// where it begins.
-pub(crate) fn fill(formula: &Formula, first: &Values, starts: &mut Vec<u32>, places: &mut Vec<u32>)
+fn fill(formula: &Formula, first: &Values, starts: &mut Vec<u32>, places: &mut Vec<u32>)
     requires values { length first.now ≡ formula.now.vars }
     requires filled { IsFilled formula.now first.now 0 0 starts.old.items places.old.items }
     ensures filled { IsFilled formula.now first.now (length formula.now.clauses) 0 starts.new.items places.new.items }

@@ -1,5 +1,7 @@
-ghost use Rattle.std.specs.Prelude.{◌≡◌, ◌<◌, ◌≤◌, IfOk, length, replicate, false, true};
+ghost use Rattle.std.specs.Prelude.{◌≡◌, ◌+◌, ◌<◌, ◌≤◌, ◌^◌, IsTrue, IfOk, length, replicate, false, true};
 ghost use Rattle.cnf_core.specs.Literals.{value_of, with_value};
+ghost use Rattle.flip_literals.specs.Walks.{AreVars};
+ghost use Rattle.flip_literals.specs.Steps.Marking.{IsMarkedIn};
 
 use cnf_core::NoMemory;
 use std::alloc::Global;
@@ -36,6 +38,26 @@ impl Marks {
         ensures { result ≡ value_of self.now var }
     {
         self.marked[var as usize - 1]
+    }
+
+    /// Whether there is a variable behind so many, and it is marked.
+    pub(crate) fn has(&self, index: u32) -> bool
+        ensures marked { IsTrue result → (index < length self.now) × IsTrue (value_of self.now (index + 1)) }
+        ensures limit { IsTrue result → index + 1 < 2 ^ 32 }
+    {
+        index < u32::MAX && matches!(self.marked.get(index as usize), Some(true))
+    }
+
+    /// Marks these variables, and no others.
+    pub(crate) fn set_to(&mut self, vars: &[u32])
+        requires { AreVars (length self.old) vars.now }
+        ensures each { length self.new ≡ length self.old }
+        ensures marked { IsMarkedIn self.new vars.now }
+    {
+        self.clear();
+        for var in vars {
+            self.mark(*var);
+        }
     }
 
     /// Turns every mark off: one fill of as many bytes as there are variables.

@@ -3,41 +3,50 @@ ghost use Rattle.cnf_core.specs.Literals.{value_of, is_true as is_true_in, claus
 ghost use Rattle.cnf_core.specs.Formulas.{IsFormula, IsModel};
 ghost use Rattle.model_check.specs.Flips.{flipped};
 ghost use Rattle.flip_literals.specs.Listings.{clause_at, ListsPlaces};
+ghost use Rattle.flip_literals.specs.Steps.Listed.{IsOpposite, ListsOthers, IsAround};
 
 use crate::flat::FlatClauses;
-use crate::listing::{counted, fill, sum_up};
+use crate::listing::Lists;
 use cnf_core::{Formula, Lit, NoMemory, Values};
 use model_check::is_true;
 use std::alloc::Global;
 use std::marker::Model;
 
+/// A clause that rests on a variable alone.
+#[derive(Clone, Copy, Debug)]
+pub(crate) struct Holder {
+    /// Where it stands in the variable's list.
+    pub at: usize,
+    /// Its place in the formula.
+    pub place: u32,
+}
+
 /// For each variable the places of the clauses in which the literal of it stands that is true in one
-/// assignment. It has its own copy of the clauses, with the literals one behind the other, and is made once,
-/// in linear time.
+/// assignment, and of those in which the opposite one stands. It has its own copy of the clauses, with the
+/// literals one behind the other, and is made once, in linear time.
 #[derive(Debug, Drop)]
 pub struct Occurrences<'f> {
     clauses: FlatClauses<'f>,
     first: Values,
-    /// Where the list of each variable begins, which ends where the next one begins. Nothing is listed for
-    /// the entry 0.
-    starts: Vec<u32>,
-    /// The lists, one behind the other.
-    places: Vec<u32>,
+    /// The places of the true literals.
+    own: Lists,
+    /// The places of the false ones.
+    others: Lists,
 }
 
 impl<'f> Model for Occurrences<'f> {
     ghost use Rattle.flip_literals.specs.Listings.{Listing};
-    ghost use Rattle.flip_literals.specs.Steps.Listed.{IsIndex};
+    ghost use Rattle.flip_literals.specs.Steps.Listed.{AreIndexes};
 
     ghost Value = { Listing };
 
     ghost view = { λ o. record { formula = o.clauses; first = o.first } };
 
-    ghost invariant = { λ o. IsIndex o.clauses o.first o.starts.items o.places.items };
+    ghost invariant = { λ o. AreIndexes o.clauses o.first o.own o.others };
 }
 
 impl<'f> Occurrences<'f> {
-    /// The lists for the literals that `first` makes true.
+    /// The lists for the literals that `first` makes true, and for those that it makes false.
     pub fn new(
         alloc: Global,
         formula: &'f Formula,
@@ -46,15 +55,12 @@ impl<'f> Occurrences<'f> {
         requires { length first.now ≡ formula.now.vars }
         ensures { IfOk result (λ o. o ≡ record { formula = formula.now; first = first.now }) }
     {
-        let mut starts = counted(alloc, formula, first)?;
-        let total = sum_up(&mut starts);
-        let mut places = vec![in alloc; 0u32; total as usize]?;
-        fill(formula, first, &mut starts, &mut places);
+        let second = opposites(alloc, first)?;
         Ok(Occurrences {
+            own: Lists::new(alloc, formula, first)?,
+            others: Lists::new(alloc, formula, &second)?,
             clauses: FlatClauses::new(alloc, formula)?,
             first: first.copy()?,
-            starts,
-            places,
         })
     }
 
@@ -65,9 +71,15 @@ impl<'f> Occurrences<'f> {
         ensures places { ListsPlaces self.now var result.now }
         ensures limits { IsFormula self.now.formula }
     {
-        let start = self.starts[var as usize] as usize;
-        let end = self.starts[var as usize + 1] as usize;
-        &self.places[start..end]
+        self.own.get(var)
+    }
+
+    /// The places of the clauses in which the variable's literal stands that is false in the first assignment.
+    pub(crate) fn others(&self, var: u32) -> &[u32]
+        requires { (0 < var) × (var ≤ self.now.formula.vars) }
+        ensures { ListsOthers self.now var result.now }
+    {
+        self.others.get(var)
     }
 
     /// Whether the flip of a variable alone leaves no model, where the variable's value in the model is that
@@ -79,19 +91,26 @@ impl<'f> Occurrences<'f> {
         ensures critical { IsTrue result ↔ (IsModel self.now.formula (flipped model.now var) → ⊥) }
         ensures free { result ≡ false → IsModel self.now.formula (flipped model.now var) }
     {
-        self.holder(model, var).is_some()
+        self.holder(model, var, 0).is_some()
     }
 
-    /// The place of a clause that rests on the variable alone, if there is one.
-    pub(crate) fn holder(&self, model: &Values, var: u32) -> Option<u32>
+    /// A clause that rests on the variable alone, if there is one: the first from a place of the variable's list on, and
+    /// behind the last one from the first on.
+    pub(crate) fn holder(&self, model: &Values, var: u32, from: usize) -> Option<Holder>
         requires model { IsModel self.now.formula model.now }
         requires within { (0 < var) × (var ≤ self.now.formula.vars) }
         requires first { value_of model.now var ≡ value_of self.now.first var }
         ensures { MatchOption result (IsModel self.now.formula (flipped model.now var)) (λ _. IsModel self.now.formula (flipped model.now var) → ⊥) }
     {
-        for place in self.places(var) {
-            if !is_true_flipped(self.clause(*place), model, var) {
-                return Some(*place);
+        let places = self.places(var);
+        let from = start(from, places.len());
+        for step in 0..places.len() {
+            let at = around(from, step, places.len());
+            if !is_true_flipped(self.clause(places[at]), model, var) {
+                return Some(Holder {
+                    at,
+                    place: places[at],
+                });
             }
         }
         None
@@ -142,4 +161,34 @@ fn is_literal_true_flipped(lit: Lit, values: &Values, var: u32) -> bool
     ensures { result ≡ is_true_in (flipped values.now var) lit }
 {
     is_true(lit, values) != (lit.var() == var)
+}
+
+/// The opposite of each value.
+fn opposites(alloc: Global, first: &Values) -> Result<Values, NoMemory>
+    ensures { IfOk result (IsOpposite first.now) }
+{
+    let mut values = Values::new(alloc, first.len())?;
+    for var in 1..=first.len() {
+        values.set(var, !first.get(var));
+    }
+    Ok(values)
+}
+
+/// Where to begin in a list of so many: at a place, or at the first where it has no such place.
+fn start(from: usize, count: usize) -> usize
+    ensures { 0 < count → result < count }
+{
+    if from < count { from } else { 0 }
+}
+
+/// So many steps on from a place of a list of so many, behind its last one from the first on.
+fn around(from: usize, step: usize, count: usize) -> usize
+    requires { (from < count) × (step < count) }
+    ensures { IsAround from step count result }
+{
+    if step < count - from {
+        from + step
+    } else {
+        step - (count - from)
+    }
 }

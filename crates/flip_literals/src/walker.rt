@@ -1,41 +1,42 @@
-ghost use Rattle.std.specs.Prelude.{◌≡◌, ◌+◌, ◌<◌, ◌≤◌, IsTrue, IfOk, false};
-ghost use Rattle.cnf_core.specs.Literals.{value_of};
+ghost use Rattle.std.specs.Prelude.{◌≡◌, ◌+◌, ◌≤◌, IsTrue, IfOk, false, length};
 ghost use Rattle.cnf_core.specs.Formulas.{IsModel};
-ghost use Rattle.model_check.specs.Flips.{flipped};
 ghost use Rattle.flip_literals.specs.Walks.{AreVars, IsWalked, IsAtRest, differences};
-ghost use Rattle.flip_literals.specs.Steps.Passes.{Tells, IsPassed};
+ghost use Rattle.flip_literals.specs.Steps.Holding.{IsMade};
 
 use crate::Occurrences;
-use cnf_core::{NoMemory, Values};
+use crate::holds::Holds;
+use cnf_core::{Formula, NoMemory, Values};
 use std::alloc::Global;
 use std::marker::Model;
 
 /// The most passes of a walk.
 pub const MAX_PASSES: u32 = 100;
 
-/// What walks over the models of a formula remember: for each variable the clause that held it last. It is
-/// made once and used for any number of models.
+/// What walks over the models of a formula remember: for each variable the clause that held it last, and for
+/// each clause the variable. It is made once and used for any number of models.
 #[derive(Debug, Drop)]
 pub struct Walker {
-    /// The places of the clauses; one that no formula has where nothing held the variable yet.
-    holders: Vec<u32>,
+    holds: Holds,
 }
 
 impl Model for Walker {
     ghost use Rattle.std.specs.Prelude.{ℕ, length};
+    ghost use Rattle.flip_literals.specs.Steps.Holding.{IsMade};
 
     ghost Value = { ℕ };
 
-    ghost view = { λ w. length w.holders.items };
+    ghost view = { λ w. length w.holds.holders.items };
+
+    ghost invariant = { λ w. IsMade (length w.holds.holders.items) w.holds };
 }
 
 impl Walker {
-    /// A walker for so many variables.
-    pub fn new(alloc: Global, vars: u32) -> Result<Walker, NoMemory>
-        ensures { IfOk result (λ walker. walker ≡ vars) }
+    /// A walker for the models of a formula.
+    pub fn new(alloc: Global, formula: &Formula) -> Result<Walker, NoMemory>
+        ensures { IfOk result (λ walker. walker ≡ formula.now.vars) }
     {
         Ok(Walker {
-            holders: vec![in alloc; u32::MAX; vars as usize]?,
+            holds: Holds::new(alloc, formula)?,
         })
     }
 
@@ -43,9 +44,12 @@ impl Walker {
     /// flips each that has its first value and that no clause rests on alone, until a whole pass flips none,
     /// or for [`MAX_PASSES`] passes. What comes out is a model.
     ///
+    /// A flip makes clauses true, and a candidate that one of them held is looked at again at once. So mostly a
+    /// second pass flips none, and a walk is linear in the occurrences of the candidates. A look begins
+    /// with the clause that held the candidate last, and goes on with those of its occurrences.
+    ///
     /// Answers whether it came to rest: then no candidate that kept its first value can be flipped
-    /// alone. Otherwise each pass flipped at least one. A pass looks, for each candidate with its first value,
-    /// at the clause that held it last, and then at those of its occurrences. It takes no memory.
+    /// alone. Otherwise each pass flipped at least one. It takes no memory.
     pub fn walk(
         &mut self,
         occurrences: &Occurrences,
@@ -60,68 +64,12 @@ impl Walker {
         ensures rest { IsTrue result → IsAtRest occurrences.now candidates.now model.new }
         ensures cut { result ≡ false → differences occurrences.now.first model.old + 100 ≤ differences occurrences.now.first model.new }
     {
+        self.holds.begin(candidates);
         for _pass in 0..MAX_PASSES {
-            if !self.pass(occurrences, model, candidates) {
+            if !self.holds.pass(occurrences, model, candidates) {
                 return true;
             }
         }
         false
-    }
-
-    /// One pass over the candidates. Answers whether it flipped one.
-    fn pass(&mut self, occurrences: &Occurrences, model: &mut Values, candidates: &[u32]) -> bool
-        requires vars { self.old ≡ occurrences.now.formula.vars }
-        requires model { IsModel occurrences.now.formula model.old }
-        requires candidates { AreVars occurrences.now.formula.vars candidates.now }
-        ensures same { self.new ≡ self.old }
-        ensures pass { IsPassed occurrences.now candidates.now model.old model.new result }
-    {
-        let mut changed = false;
-        for var in candidates {
-            if self.flip(occurrences, model, *var) {
-                changed = true;
-            }
-        }
-        changed
-    }
-
-    /// Flips the variable if it has its first value and no clause rests on it alone, and answers whether it did.
-    #[tactic(auto, using(crate::proofs::Walked::flips))]
-    fn flip(&mut self, occurrences: &Occurrences, model: &mut Values, var: u32) -> bool
-        requires vars { self.old ≡ occurrences.now.formula.vars }
-        requires model { IsModel occurrences.now.formula model.old }
-        requires var { (0 < var) × (var ≤ occurrences.now.formula.vars) }
-        ensures same { self.new ≡ self.old }
-        ensures told { Tells occurrences.now var model.old model.new result }
-    {
-        let value = model.get(var);
-        if value != occurrences.first(var) || self.is_held(occurrences, model, var) {
-            return false;
-        }
-        model.set(var, !value);
-        true
-    }
-
-    /// Whether a clause rests on the variable alone: the one that held it last, or another, which is remembered.
-    fn is_held(&mut self, occurrences: &Occurrences, model: &Values, var: u32) -> bool
-        requires vars { self.old ≡ occurrences.now.formula.vars }
-        requires model { IsModel occurrences.now.formula model.now }
-        requires var { (0 < var) × (var ≤ occurrences.now.formula.vars) }
-        requires first { value_of model.now var ≡ value_of occurrences.now.first var }
-        ensures same { self.new ≡ self.old }
-        ensures held { IsTrue result → IsModel occurrences.now.formula (flipped model.now var) → ⊥ }
-        ensures free { result ≡ false → IsModel occurrences.now.formula (flipped model.now var) }
-    {
-        let last = self.holders[var as usize - 1];
-        if occurrences.is_held_by(last, model, var) {
-            return true;
-        }
-        match occurrences.holder(model, var) {
-            Some(place) => {
-                self.holders[var as usize - 1] = place;
-                true
-            }
-            None => false,
-        }
     }
 }

@@ -82,6 +82,13 @@ impl<'f> Question<'f> {
         self.phases.get(var)
     }
 
+    /// A walker for the models of the formula.
+    pub(crate) fn walker(&self, alloc: Global) -> Result<Walker, NoMemory>
+        ensures { IfOk result (λ walker. walker ≡ self.now.formula.vars) }
+    {
+        Walker::new(alloc, self.formula())
+    }
+
     /// Turns candidates in a model, as [`Walker::walk`] does.
     pub(crate) fn walk(&self, walker: &mut Walker, model: &mut Values, candidates: &[u32]) -> bool
         requires vars { walker.old ≡ self.now.formula.vars }

@@ -41,6 +41,7 @@ impl<'f> Tools<'f> {
     {
         let vars = question.vars();
         let groups = vars.div_ceil(32) as usize;
+        let walker = question.walker(alloc)?;
         let solver = match first {
             Some(solver) => solver,
             None => begun(alloc, share, question, chooser)?,
@@ -52,7 +53,7 @@ impl<'f> Tools<'f> {
             loaded: vec![in alloc; 0; groups]?,
             rooted: vec![in alloc; 0; groups]?,
             marks: Marks::new(alloc, vars)?,
-            walker: Walker::new(alloc, vars)?,
+            walker,
         })
     }
 

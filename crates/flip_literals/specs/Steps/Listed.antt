@@ -1,9 +1,10 @@
 -- The making of the lists: counted, summed up, filled.
-use Rattle.std.specs.Prelude.{◌≡◌, ℕ, ◌+◌, ◌-◌, ◌<◌, ◌≤◌, ◌&&◌, nat_eq, if◌then◌else◌, List, length, Contains, take, slice_index}
+use Rattle.std.specs.Prelude.{◌≡◌, ℕ, ◌+◌, ◌-◌, ◌<◌, ◌≤◌, ◌⊎◌, ◌&&◌, nat_eq, not, if◌then◌else◌, List, length, Contains, take, slice_index}
 use Rattle.std.specs.List.{sum_by}
-use Rattle.cnf_core.specs.Literals.{Literal, Literals, Assignment, is_true}
+use Rattle.cnf_core.specs.Literals.{Literal, Literals, Assignment, value_of, is_true}
 use Rattle.cnf_core.specs.Formulas.{Cnf, IsFormula, true_literal, literal_count}
-use Rattle.flip_literals.specs.Listings.{clause_at, StandsAt}
+use Rattle.flip_literals.specs.declared.listing.Lists.{Lists}
+use Rattle.flip_literals.specs.Listings.{Listing, clause_at, StandsAt, ListsPlaces}
 
 -- 1 for the variable's literal that the assignment makes true, and 0 for every other one
 abbrev pub hit : Assignment → ℕ → Literal → ℕ
@@ -64,3 +65,40 @@ pub record IsIndex (F : Cnf) (a : Assignment) (starts places : List ℕ) : Type 
       → StandsAt F a v (slice_index places k)
   pub whole : (v p : ℕ) → 0 < v → v ≤ F.vars → StandsAt F a v p
       → IsListed places (slice_index starts v) (slice_index starts (v + 1)) p
+
+-- the variable's list lies within
+pub record HasPart (starts places : List ℕ) (v : ℕ) : Type 0 where
+  pub each : v + 1 < length starts
+  pub rises : slice_index starts v ≤ slice_index starts (v + 1)
+  pub within : slice_index starts (v + 1) ≤ length places
+
+-- the list has the places of the variable's literal, whichever assignment the lists are for
+abbrev pub IsPart : (starts places : List ℕ) → ℕ → List ℕ → Type 0
+IsPart starts places v part = (F : Cnf) (a : Assignment) → IsIndex F a starts places → 0 < v → v ≤ F.vars
+    → ListsPlaces (record { formula = F; first = a }) v part
+
+-- each value is the opposite one
+pub record IsOpposite (a b : Assignment) : Type 0 where
+  pub each : length b ≡ length a
+  pub opposite : (v : ℕ) → 0 < v → v ≤ length a → value_of b v ≡ not (value_of a v)
+
+-- the lists are for the literals that an assignment makes false
+pub record IsOtherIndex (F : Cnf) (a : Assignment) (lists : Lists) : Type 0 where
+  pub second : Assignment
+  pub opposite : IsOpposite a second
+  pub index : IsIndex F second lists.starts.items lists.places.items
+
+pub record AreIndexes (F : Cnf) (a : Assignment) (own others : Lists) : Type 0 where
+  pub own_index : IsIndex F a own.starts.items own.places.items
+  pub other_index : IsOtherIndex F a others
+
+-- the list has just the places of the variable's literal that the first assignment makes false
+pub record ListsOthers (o : Listing) (v : ℕ) (places : List ℕ) : Type 0 where
+  pub second : Assignment
+  pub opposite : IsOpposite o.first second
+  pub lists : ListsPlaces (record { formula = o.formula; first = second }) v places
+
+-- so many steps on from a place, in a list of so many that goes on from its first
+pub record IsAround (start step count at : ℕ) : Type 0 where
+  pub within : at < count
+  pub is : (at ≡ start + step) ⊎ (at + count ≡ start + step)

@@ -1,7 +1,7 @@
 -- The sums of the counts are the ends of the lists, which are then filled.
 use Rattle.std.proofs.Common.{◌≡◌, replicate, rules}
 use Rattle.flip_literals.proofs.Filled.{filled-start, index_filled}
-use Rattle.flip_literals.proofs.occurrences.Occurrences.new.Goals as goal
+use Rattle.flip_literals.proofs.listing.Lists.new.Goals as goal
 
 pub fill-requires-clause-filled : goal.fill-requires-clause-filled
 fill-requires-clause-filled c =
@@ -10,8 +10,7 @@ fill-requires-clause-filled c =
     (filled-start c.args.formula.now c.args.first.now c.in_ok-starts.starts.items c.sum_up-total.new.counts.items c.sum_up-total.result
     c.in_ok-starts.ensures.counted c.sum_up-total.ensures)
 
-pub invariant_of-result : goal.invariant_of-result
-invariant_of-result c =
-    rw (c.in_ok-copy.ensures, c.in_ok-new.ensures)
-    (index_filled c.args.formula.now c.args.first.now c.fill.new.starts.items c.fill.new.places.items c.fill.ensures.limits c.requires
-    c.fill.ensures.filled)
+pub returns : goal.returns
+returns c =
+    index_filled c.args.formula.now c.args.first.now c.fill.new.starts.items c.fill.new.places.items c.fill.ensures.limits c.requires
+    c.fill.ensures.filled
