@@ -1,0 +1,9 @@
+pub mod Cleaning
+pub mod Laid
+pub mod Filled
+pub mod Counted
+pub mod Flipped
+pub mod Turned
+pub mod Found
+pub mod Weighed
+pub mod Undone

@@ -1,0 +1,7 @@
+-- The best so far may be flipped.
+use Rattle.std.proofs.Common.{IfSome}
+use Rattle.local_search.specs.Steps.States.{IsFree}
+use Rattle.local_search.proofs.scores.Scores.best_of.Given as goal
+
+abbrev pub invariant-loop-lit : goal.invariant-loop-lit
+invariant-loop-lit l = IfSome l.best (IsFree l.self.vars l.held)

@@ -1,0 +1,9 @@
+-- The numbers written so far.
+use Rattle.std.proofs.Common.{◌≡◌, ℕ, ◌<◌, length, get_or}
+use Rattle.local_search.proofs.spots.rising.Given as goal
+
+abbrev pub invariant-loop-i : goal.invariant-loop-i
+invariant-loop-i l = record {
+  each : length l.numbers.items ≡ l.count;
+  written : (k : ℕ) → k < l.i → get_or l.numbers.items k 0 ≡ k;
+}
