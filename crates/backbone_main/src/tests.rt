@@ -7,7 +7,7 @@ mod faults;
 mod files;
 mod rows;
 mod runs;
-mod samples;
+mod sample_rows;
 mod stand_ins;
 
 use crate::serve::{alone, serve};
