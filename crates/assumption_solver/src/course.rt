@@ -244,7 +244,8 @@ impl<'f> Search<'f> {
         }
     }
 
-    /// Goes on along the assumptions to one that is without value, or false above the root.
+    /// Goes on along the assumptions to one that is without value, or false above the root. There the core is that of the
+    /// first that is false at the root, if one was noted: its unit stands already.
     fn next_assumption(&self, query: &Query, sweep: &mut Sweep) -> Option<Next>
         requires trail { IsTrail self.now.trail }
         requires guided { IsGuided query.now.assume.now query.now.chunk.now self.now.trail }
@@ -259,7 +260,10 @@ impl<'f> Search<'f> {
                 Some(true) => {}
                 Some(false) => {
                     if self.trail.level_of(lit.var()) > 0 {
-                        return Some(Next::Failed(lit));
+                        return Some(match sweep.refuted {
+                            Some(first) => Next::Refuted(first),
+                            None => Next::Failed(lit),
+                        });
                     }
                     if sweep.refuted.is_none() {
                         sweep.refuted = Some(lit);

@@ -12,9 +12,10 @@ use Rattle.worker_loop.specs.declared.findings.Findings.{Findings}
 use Rattle.worker_loop.specs.Posts.{WorkerState, PostState, IsUnused, IsNewPost, IsLater}
 use Rattle.worker_loop.specs.Runs.{IsFound}
 use Rattle.run_core.specs.declared.settings.RunSettings.{RunSettings}
+use Rattle.run_core.specs.declared.slot.Recruit.{Recruit}
 use Rattle.run_core.specs.declared.slot.Slot.{Slot}
-use Rattle.run_core.specs.declared.slot.Slot.TheVariants.{Ready, Done, Left, Empty}
-use Rattle.run_core.specs.Steps.Crews.{IsReady, IsLeft, IsHome, IsOut, IsRootAt, IsAtRoot, IsHired, IsVacant, IsStaffed, IsBack, IsFirstReady, IsFirstBack}
+use Rattle.run_core.specs.declared.slot.Slot.TheVariants.{Ready, Called, Done, Left, Empty}
+use Rattle.run_core.specs.Steps.Crews.{IsReady, IsLeft, IsHome, IsOut, IsRootAt, IsAtRoot, IsCalled, HasServed, IsVacant, IsStaffed, IsBack, IsFirstReady, IsFirstBack}
 use Rattle.run_core.specs.Steps.Crews.{MayRun, Ran, HaveRun, AreVacant, IsHiring, IsCrew, IsReturned}
 
 new_ready : (b : Board) (a : About) (budget n : ℕ) (s : Sitter) (w : WorkerState) → b.about ≡ a → Sits b s → s.view.number ≡ n
@@ -49,13 +50,19 @@ first_ready b a workers budget s w v about root number new sits later same store
       },
     )
 
--- what stands at a seat where a worker was to be made
-pub staffed_of : {X : Type 0} {P : X → Type 0} (b : Board) (a : About) (budget n : ℕ) (s : Sitter) (slot : Slot X P) → b.about ≡ a → IsLeft b n s
-    → IsHired a budget n s slot → IsStaffed b budget n slot
-staffed_of b a budget n s (Ready w) about left is = new_ready b a budget n s w about left.sits left.number is.0 is.1
-staffed_of b a budget n s (Done f) about left is = is
-staffed_of b a budget n s (Left t) about left is = subst (λ (u : Sitter). IsLeft b n u) (sym is) left
-staffed_of b a budget n s Empty about left is = is
+-- the worker that is called to a seat
+pub called_to : {X : Type 0} {P : X → Type 0} (b : Board) (workers budget n : ℕ) (slots : List (Slot X P)) (d slot : Slot X P) (r : Recruit X P)
+    → IsHiring b workers budget n slots → n < workers → slot ≡ slice_index_or slots n d → slot ≡ Left r.seat
+    → r.share.number ≡ n → r.share.workers ≡ workers → r.share.budget ≡ budget → 1 ≤ budget → budget ≤ 1099511627776
+    → IsStaffed b budget n (Called r)
+called_to {X} {P} b workers budget n slots d slot r old high here left number among limit some most = record {
+  number = number;
+  among = omega (arith, among);
+  budget = limit;
+  some = some;
+  most = most;
+  left = subst (λ (s : Slot X P). IsVacant b n s) (sym here ∙ left) (old.seats.vacant n d (omega arith) high);
+}
 
 -- the first worker in its slot
 pub hiring_first : {X : Type 0} {P : X → Type 0} (b : Board) (workers budget : ℕ) (slots : List (Slot X P)) (w : _) → 1 ≤ workers
@@ -110,9 +117,11 @@ crew_hired b workers budget n slots all is = record {
 
 may_run : {X : Type 0} {P : X → Type 0} (b : Board) (budget n : ℕ) (slot : Slot X P) → IsStaffed b budget n slot → MayRun b slot
 may_run b budget n (Ready w) is = (is.sits, is.few)
-may_run b budget n (Done f) is = tt {0}
-may_run b budget n (Left s) is = tt {0}
-may_run b budget n Empty is = tt {0}
+may_run {X} {P} b budget n (Called r) is =
+    subst (λ (k : ℕ). IsCalled b r.share.budget k r) (sym is.number) (subst (λ (k : ℕ). IsCalled b k n r) (sym is.budget) is)
+may_run b budget n (Done f) is = absurd is
+may_run b budget n (Left s) is = absurd is
+may_run b budget n Empty is = absurd is
 
 -- the workers of a crew may run
 pub crew_may_run : {X : Type 0} {P : X → Type 0} (b : Board) (workers budget : ℕ) (slots : List (Slot X P)) → IsCrew b workers budget slots
@@ -122,22 +131,35 @@ crew_may_run b workers budget slots crew i d low =
 
 back_of : {X : Type 0} {P : X → Type 0} (b : Board) (budget n : ℕ) (slot new : Slot X P) → IsStaffed b budget n slot → Ran b slot new → IsBack b budget n new
 back_of b budget n (Ready w) (Ready v) is ran = ran
+back_of b budget n (Ready w) (Called r) is ran = ran
 back_of b budget n (Ready w) (Done f) is ran = record { worker = w; ready = is; found = ran }
 back_of b budget n (Ready w) (Left s) is ran = absurd ran
 back_of b budget n (Ready w) Empty is ran = ran
+back_of b budget n (Called r) (Ready v) is ran = ran
+back_of b budget n (Called r) (Called q) is ran = ran
+back_of b budget n (Called r) (Done f) is ran = record {
+  worker = ran.worker;
+  ready = new_ready b b.about budget n r.seat ran.worker refl is.left.sits is.left.number (ran.number ∙ is.number)
+      (subst (λ (k : ℕ). IsNewPost b.about r.seat k ran.worker.post) is.budget ran.new);
+  found = ran.found;
+}
+back_of b budget n (Called r) (Left s) is ran = subst (λ (t : Sitter). IsLeft b n t) (sym ran) is.left
+back_of b budget n (Called r) Empty is ran = ran
 back_of b budget n (Done f) new is ran = absurd is
-back_of {X} {P} b budget n (Left s) new is ran = subst (λ (t : Slot X P). IsBack b budget n t) (sym ran) is
+back_of b budget n (Left s) new is ran = absurd is
 back_of b budget n Empty new is ran = absurd is
 
 first_back : {X : Type 0} {P : X → Type 0} (b : Board) (workers : ℕ) (slot new : Slot X P) → IsFirstReady b.about workers slot → Ran b slot new
     → IsFirstBack b.about workers new
 first_back b workers (Ready w) (Ready v) is ran = ran
+first_back b workers (Ready w) (Called r) is ran = ran
 first_back b workers (Ready w) (Done f) is ran = (
   subst (λ (ms : List Assignment). take (length ms) f.models.models ≡ ms) is.models ran.first,
   subst (λ (js : List ℕ). IsOut 1 workers js) (sym ran.out) is.out,
 )
 first_back b workers (Ready w) (Left s) is ran = ran
 first_back b workers (Ready w) Empty is ran = ran
+first_back b workers (Called r) new is ran = absurd is
 first_back b workers (Done f) new is ran = absurd is
 first_back b workers (Left s) new is ran = absurd is
 first_back b workers Empty new is ran = absurd is

@@ -4,7 +4,7 @@ use Rattle.std.specs.Prelude.{slice_index_or}
 use Rattle.candidate_words.specs.Seats.{Board}
 use Rattle.run_core.specs.declared.gathered.Gathered.{Gathered}
 use Rattle.run_core.specs.declared.slot.Slot.{Slot}
-use Rattle.run_core.specs.declared.slot.Slot.TheVariants.{Ready, Done, Left, Empty}
+use Rattle.run_core.specs.declared.slot.Slot.TheVariants.{Ready, Called, Done, Left, Empty}
 use Rattle.run_core.specs.Steps.Crews.{IsBack, IsFirstBack, IsReturned}
 use Rattle.run_core.specs.Steps.Gathers.{IsGathered, MayTakeIn, HasTakenIn, MayBegin, HasBegunIn}
 use Rattle.run_core.proofs.Taking.{gathered_first, gathered_next, gathered_left, may_take, may_take_all}
@@ -38,6 +38,7 @@ begun {X = X} {P = P} b workers budget slots rest slot is all =
 pub may_begin : {X : Type 0} {P : X → Type 0} (b : Board) (workers budget : ℕ) (slot : Slot X P) (rest : List (Slot X P))
     → IsBegun b workers budget slot rest → MayBegin slot
 may_begin b workers budget (Ready w) rest is = is.here
+may_begin b workers budget (Called r) rest is = is.here
 may_begin b workers budget (Done f) rest is = tt
 may_begin b workers budget (Left s) rest is = is.first
 may_begin b workers budget Empty rest is = is.here
@@ -45,6 +46,7 @@ may_begin b workers budget Empty rest is = is.here
 first_gathered : {X : Type 0} {P : X → Type 0} (b : Board) (workers budget : ℕ) (slot : Slot X P) (g : Gathered)
     → IsBack b budget 0 slot → IsFirstBack b.about workers slot → HasBegunIn slot g → IsGathered b workers budget 1 g
 first_gathered b workers budget (Ready w) g here first begun = absurd begun
+first_gathered b workers budget (Called r) g here first begun = absurd begun
 first_gathered b workers budget (Done f) g here first begun = gathered_first b workers budget f g here first.0 first.1 begun
 first_gathered b workers budget (Left s) g here first begun = absurd begun
 first_gathered b workers budget Empty g here first begun = absurd begun
@@ -69,6 +71,7 @@ next_back b workers budget slot rest g is =
 takes : {X : Type 0} {P : X → Type 0} (b : Board) (workers budget : ℕ) (slot : Slot X P) (rest : List (Slot X P)) (g : Gathered)
     → workers ≤ 16 → b.about.formula.vars ≤ 1048576 → IsGathering b workers budget (slot ∷ rest) g → MayTakeIn b g slot
 takes b workers budget (Ready w) rest g few vars is = next_back b workers budget (Ready w) rest g is
+takes b workers budget (Called r) rest g few vars is = next_back b workers budget (Called r) rest g is
 takes b workers budget (Done f) rest g few vars is =
     may_take_all b workers budget is.below g f is.gathered (next_back b workers budget (Done f) rest g is) (omega (arith, is.count)) few vars
 takes b workers budget (Left s) rest g few vars is =
@@ -84,6 +87,7 @@ takes_next {X = X} {P = P} b workers budget slot rest all g same few vars is =
 next_gathered : {X : Type 0} {P : X → Type 0} (b : Board) (workers budget below : ℕ) (slot : Slot X P) (g h : Gathered)
     → IsGathered b workers budget below g → IsBack b budget below slot → HasTakenIn b g slot h → IsGathered b workers budget (below + 1) h
 next_gathered b workers budget below (Ready w) g h is back took = absurd back
+next_gathered b workers budget below (Called r) g h is back took = absurd back
 next_gathered b workers budget below (Done f) g h is back took = gathered_next b workers budget below g h f is back took
 next_gathered b workers budget below (Left s) g h is back took = gathered_left b workers budget below g h s is back took
 next_gathered b workers budget below Empty g h is back took = absurd back

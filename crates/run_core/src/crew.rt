@@ -2,12 +2,11 @@
 ghost use Rattle.std.specs.Prelude.{◌≡◌, ◌+◌, ◌^◌, ◌<◌, ◌≤◌, [], IfOk, OnOk};
 ghost use Rattle.std.specs.Vec.Iter.{into_iter_len};
 ghost use Rattle.cnf_core.specs.Formulas.{IsModel};
-ghost use Rattle.board_core.specs.Rules.{IsView};
-ghost use Rattle.worker_loop.specs.Posts.{IsFirst, IsUnused};
-ghost use Rattle.run_core.specs.Steps.Crews.{IsRootAt, IsAtRoot, IsReady, IsHired, AreVacant, IsHiring, IsCrew, IsReturned};
+ghost use Rattle.worker_loop.specs.Posts.{IsFirst};
+ghost use Rattle.run_core.specs.Steps.Crews.{IsRootAt, IsAtRoot, IsReady, AreVacant, IsHiring, IsCrew, IsReturned};
 
 use crate::RunSettings;
-use crate::slot::{Slot, run_in_turn, run_on_threads};
+use crate::slot::{Recruit, Slot, run_in_turn, run_on_threads};
 use assumption_solver::Solver;
 use candidate_words::{Seat, Words};
 use chooser_core::Chooser;
@@ -27,8 +26,8 @@ pub(crate) struct Crew<'f, 'r> {
 }
 
 impl<'f, 'r> Crew<'f, 'r> {
-    /// Opens the table, splits a seat for each worker but the first, and makes the workers. The first has the solver and
-    /// the chooser that found the first model, and absorbs it. Each other one that can't be made leaves its seat.
+    /// Opens the table, splits a seat for each worker but the first, and makes that. It has the solver and the chooser that
+    /// found the first model, and absorbs it. The others are called to their seats, and each is made where it runs.
     #[tactic(auto, using(crate::proofs::Splits::root_opened))]
     pub fn hire(
         alloc: Global,
@@ -57,7 +56,7 @@ impl<'f, 'r> Crew<'f, 'r> {
             slots,
         };
         crew.hire_first(alloc, question, first, root, chooser)?;
-        crew.hire_others(alloc, question, others);
+        crew.call_others(others);
         Ok(crew)
     }
 
@@ -117,15 +116,9 @@ impl<'f, 'r> Crew<'f, 'r> {
         Ok(worker)
     }
 
-    /// Makes the other workers at their seats.
-    fn hire_others(
-        &mut self,
-        alloc: Global,
-        question: &'r Question<'f>,
-        others: IntoIter<Box<dyn Chooser>>,
-    )
+    /// Calls the other workers to their seats.
+    fn call_others(&mut self, others: IntoIter<Box<dyn Chooser>>)
         requires budget { (1 ≤ self.old.settings.budget) × (self.old.settings.budget ≤ 2 ^ 40) }
-        requires about { self.old.words.about ≡ question.now }
         requires others { self.old.settings.workers ≤ 1 + into_iter_len others }
         requires hiring { IsHiring self.old.words self.old.settings.workers self.old.settings.budget 1 self.old.slots.items }
         ensures settings { self.new.settings ≡ self.old.settings }
@@ -137,21 +130,14 @@ impl<'f, 'r> Crew<'f, 'r> {
             let Some(chooser) = others.next() else {
                 unreachable!()
             };
-            self.hire_next(alloc, question, number, chooser);
+            self.call_next(number, chooser);
         }
     }
 
-    /// Makes the worker of this number at its seat.
-    fn hire_next(
-        &mut self,
-        alloc: Global,
-        question: &'r Question<'f>,
-        number: u32,
-        chooser: Box<dyn Chooser>,
-    )
+    /// Calls the worker of this number to its seat.
+    fn call_next(&mut self, number: u32, chooser: Box<dyn Chooser>)
         requires number { (1 ≤ number) × (number < self.old.settings.workers) }
         requires budget { (1 ≤ self.old.settings.budget) × (self.old.settings.budget ≤ 2 ^ 40) }
-        requires about { self.old.words.about ≡ question.now }
         requires hiring { IsHiring self.old.words self.old.settings.workers self.old.settings.budget number self.old.slots.items }
         ensures settings { self.new.settings ≡ self.old.settings }
         ensures words { self.new.words ≡ self.old.words }
@@ -165,28 +151,40 @@ impl<'f, 'r> Crew<'f, 'r> {
         };
         let slot = &mut self.slots[number as usize];
         if let Slot::Left(seat) = mem::replace(slot, Slot::Empty) {
-            *slot = hired(alloc, share, question, seat, chooser);
+            *slot = Slot::Called(Recruit {
+                share,
+                seat,
+                chooser,
+            });
         }
     }
 
     /// Runs all workers, one after another.
-    pub fn run_in_turn(&mut self)
-        requires { IsCrew self.old.words self.old.settings.workers self.old.settings.budget self.old.slots.items }
+    pub fn run_in_turn(&mut self, alloc: Global, question: &'r Question<'f>)
+        requires about { self.old.words.about ≡ question.now }
+        requires crew { IsCrew self.old.words self.old.settings.workers self.old.settings.budget self.old.slots.items }
         ensures settings { self.new.settings ≡ self.old.settings }
         ensures words { self.new.words ≡ self.old.words }
         ensures returned { IsReturned self.new.words self.new.settings.workers self.new.settings.budget self.new.slots.items }
     {
-        run_in_turn(&self.words, &NoGate, &mut self.slots);
+        run_in_turn(alloc, question, &self.words, &NoGate, &mut self.slots);
     }
 
     /// Runs all workers, each on a thread of its own where one can be made.
-    pub fn run_on_threads<R: Threads + Sync, G: Gate>(&mut self, rt: &R, gate: &G)
-        requires { IsCrew self.old.words self.old.settings.workers self.old.settings.budget self.old.slots.items }
+    pub fn run_on_threads<R: Threads + Sync, G: Gate>(
+        &mut self,
+        rt: &R,
+        alloc: Global,
+        question: &'r Question<'f>,
+        gate: &G,
+    )
+        requires about { self.old.words.about ≡ question.now }
+        requires crew { IsCrew self.old.words self.old.settings.workers self.old.settings.budget self.old.slots.items }
         ensures settings { self.new.settings ≡ self.old.settings }
         ensures words { self.new.words ≡ self.old.words }
         ensures returned { IsReturned self.new.words self.new.settings.workers self.new.settings.budget self.new.slots.items }
     {
-        run_on_threads(rt, &self.words, gate, &mut self.slots);
+        run_on_threads(rt, alloc, question, &self.words, gate, &mut self.slots);
     }
 }
 
@@ -208,24 +206,4 @@ fn split_seats<'f, 'r>(
         slots.push(Slot::Left(words.split(root)))?;
     }
     Ok(())
-}
-
-/// A worker at the seat, or the seat where it couldn't be made for want of memory.
-fn hired<'f, 'r>(
-    alloc: Global,
-    share: Share,
-    question: &'r Question<'f>,
-    seat: Seat,
-    chooser: Box<dyn Chooser>,
-) -> Slot<'f, 'r>
-    requires number { share.number < share.workers }
-    requires budget { (1 ≤ share.budget) × (share.budget ≤ 2 ^ 40) }
-    requires seat { IsView question.now seat.view }
-    requires unused { IsUnused question.now seat }
-    ensures { IsHired question.now share.budget share.number seat result }
-{
-    match Worker::new(alloc, share, question, None, seat, chooser) {
-        Ok(worker) => Slot::Ready(worker),
-        Err(seat) => Slot::Left(seat),
-    }
 }

@@ -62,7 +62,7 @@ impl<'f> Gathered<'f> {
     {
         match slot {
             Slot::Done(findings) => Gathered::of_root(alloc, workers, findings),
-            Slot::Ready(_) | Slot::Left(_) | Slot::Empty => unreachable!(),
+            Slot::Ready(_) | Slot::Called(_) | Slot::Left(_) | Slot::Empty => unreachable!(),
         }
     }
 
@@ -97,7 +97,7 @@ impl<'f> Gathered<'f> {
                 self.take_seat(words, seat);
                 Ok(())
             }
-            Slot::Ready(_) | Slot::Empty => unreachable!(),
+            Slot::Ready(_) | Slot::Called(_) | Slot::Empty => unreachable!(),
         }
     }
 

@@ -89,7 +89,7 @@ fn finish_alone<'f>(
     } = first;
     let question = Question::new(alloc, formula, model)?;
     let mut crew: Crew<'f, '_> = Crew::hire(alloc, settings, &question, solver, chooser, others)?;
-    crew.run_in_turn();
+    crew.run_in_turn(alloc, &question);
     crew.end(alloc, formula)
 }
 
@@ -118,7 +118,7 @@ fn finish_together<'f, R: Threads + Sync, G: Gate>(
     } = first;
     let question = Question::new(alloc, formula, model)?;
     let mut crew: Crew<'f, '_> = Crew::hire(alloc, settings, &question, solver, chooser, others)?;
-    crew.run_on_threads(rt, gate);
+    crew.run_on_threads(rt, alloc, &question, gate);
     crew.end(alloc, formula)
 }
 

@@ -7,8 +7,9 @@ use Rattle.candidate_words.specs.Seats.{Board, Sitter, Sits}
 use Rattle.worker_loop.specs.declared.findings.Findings.{Findings}
 use Rattle.worker_loop.specs.Posts.{WorkerState, IsUnused, IsNewPost}
 use Rattle.worker_loop.specs.Runs.{IsFound}
+use Rattle.run_core.specs.declared.slot.Recruit.{Recruit}
 use Rattle.run_core.specs.declared.slot.Slot.{Slot}
-use Rattle.run_core.specs.declared.slot.Slot.TheVariants.{Ready, Done, Left, Empty}
+use Rattle.run_core.specs.declared.slot.Slot.TheVariants.{Ready, Called, Done, Left, Empty}
 
 -- the worker of this number, which hasn't run, at its seat
 pub record IsReady (b : Board) (limit n : ℕ) (w : WorkerState) : Type 0 where
@@ -24,6 +25,22 @@ pub record IsLeft (b : Board) (n : ℕ) (s : Sitter) : Type 0 where
   pub sits : Sits b s
   pub number : s.view.number ≡ n
   pub unused : IsUnused b.about s
+
+-- what the worker of this number is made from
+pub record IsCalled {X : Type 0} {P : X → Type 0} (b : Board) (limit n : ℕ) (r : Recruit X P) : Type 0 where
+  pub number : r.share.number ≡ n
+  pub among : n < r.share.workers
+  pub budget : r.share.budget ≡ limit
+  pub some : 1 ≤ limit
+  pub most : limit ≤ 1099511627776
+  pub left : IsLeft b n r.seat
+
+-- a worker was made from it, and what that handed in
+pub record HasServed {X : Type 0} {P : X → Type 0} (b : Board) (r : Recruit X P) (f : Findings) : Type 0 where
+  pub worker : WorkerState
+  pub number : worker.number ≡ r.share.number
+  pub new : IsNewPost b.about r.seat r.share.budget worker.post
+  pub found : IsFound b worker f
 
 -- what the worker of this number handed in
 pub record IsHome (b : Board) (budget n : ℕ) (f : Findings) : Type 0 where
@@ -49,16 +66,10 @@ pub record IsAtRoot (a : About) (workers : ℕ) (w : WorkerState) : Type 0 where
   pub models : w.post.models.models ≡ a.phases ∷ []
   pub out : IsOut 1 workers w.post.seat.view.out
 
--- a new worker at the seat, or the seat where none could be made
-abbrev pub IsHired : {X : Type 0} {P : X → Type 0} → About → ℕ → ℕ → Sitter → Slot X P → Type 0
-IsHired a budget n s (Ready w) = (w.number ≡ n) × IsNewPost a s budget w.post
-IsHired a budget n s (Done f) = ⊥
-IsHired a budget n s (Left t) = t ≡ s
-IsHired a budget n s Empty = ⊥
-
 -- the slot of this number has the seat of a worker that isn't made yet
 abbrev pub IsVacant : {X : Type 0} {P : X → Type 0} → Board → ℕ → Slot X P → Type 0
 IsVacant b n (Ready w) = ⊥
+IsVacant b n (Called r) = ⊥
 IsVacant b n (Done f) = ⊥
 IsVacant b n (Left s) = IsLeft b n s
 IsVacant b n Empty = ⊥
@@ -66,12 +77,14 @@ IsVacant b n Empty = ⊥
 -- the slot of this number before its worker runs, and after
 abbrev pub IsStaffed : {X : Type 0} {P : X → Type 0} → Board → ℕ → ℕ → Slot X P → Type 0
 IsStaffed b budget n (Ready w) = IsReady b budget n w
+IsStaffed b budget n (Called r) = IsCalled b budget n r
 IsStaffed b budget n (Done f) = ⊥
-IsStaffed b budget n (Left s) = IsLeft b n s
+IsStaffed b budget n (Left s) = ⊥
 IsStaffed b budget n Empty = ⊥
 
 abbrev pub IsBack : {X : Type 0} {P : X → Type 0} → Board → ℕ → ℕ → Slot X P → Type 0
 IsBack b budget n (Ready w) = ⊥
+IsBack b budget n (Called r) = ⊥
 IsBack b budget n (Done f) = IsHome b budget n f
 IsBack b budget n (Left s) = IsLeft b n s
 IsBack b budget n Empty = ⊥
@@ -79,12 +92,14 @@ IsBack b budget n Empty = ⊥
 -- the first worker sits at the root and has the first model, before it runs and after
 abbrev pub IsFirstReady : {X : Type 0} {P : X → Type 0} → About → ℕ → Slot X P → Type 0
 IsFirstReady a workers (Ready w) = IsAtRoot a workers w
+IsFirstReady a workers (Called r) = ⊥
 IsFirstReady a workers (Done f) = ⊥
 IsFirstReady a workers (Left s) = ⊥
 IsFirstReady a workers Empty = ⊥
 
 abbrev pub IsFirstBack : {X : Type 0} {P : X → Type 0} → About → ℕ → Slot X P → Type 0
 IsFirstBack a workers (Ready w) = ⊥
+IsFirstBack a workers (Called r) = ⊥
 IsFirstBack a workers (Done f) = (take 1 f.models.models ≡ a.phases ∷ []) × IsOut 1 workers f.seat.view.out
 IsFirstBack a workers (Left s) = ⊥
 IsFirstBack a workers Empty = ⊥
@@ -92,6 +107,7 @@ IsFirstBack a workers Empty = ⊥
 -- a worker in the slot may run
 abbrev pub MayRun : {X : Type 0} {P : X → Type 0} → Board → Slot X P → Type 0
 MayRun b (Ready w) = Sits b w.post.seat × (length w.post.models.models ≤ 1)
+MayRun b (Called r) = IsCalled b r.share.budget r.share.number r
 MayRun b (Done f) = Unit {0}
 MayRun b (Left s) = Unit {0}
 MayRun b Empty = Unit {0}
@@ -100,8 +116,14 @@ MayRun b Empty = Unit {0}
 abbrev pub Ran : {X : Type 0} {P : X → Type 0} → Board → Slot X P → Slot X P → Type 0
 Ran b (Ready w) (Done f) = IsFound b w f
 Ran b (Ready w) (Ready v) = ⊥
+Ran b (Ready w) (Called r) = ⊥
 Ran b (Ready w) (Left s) = ⊥
 Ran b (Ready w) Empty = ⊥
+Ran b (Called r) (Done f) = HasServed b r f
+Ran b (Called r) (Left s) = s ≡ r.seat
+Ran b (Called r) (Ready w) = ⊥
+Ran b (Called r) (Called q) = ⊥
+Ran b (Called r) Empty = ⊥
 Ran b (Done f) slot = slot ≡ Done f
 Ran b (Left s) slot = slot ≡ Left s
 Ran b Empty slot = slot ≡ Empty

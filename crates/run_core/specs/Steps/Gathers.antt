@@ -18,7 +18,7 @@ use Rattle.worker_loop.specs.declared.findings.Findings.{Findings}
 use Rattle.worker_loop.specs.Evidence.{IsWitness, IsRooted, IsImportOf, IsPublished, IsSettled}
 use Rattle.run_core.specs.declared.gathered.Gathered.{Gathered}
 use Rattle.run_core.specs.declared.slot.Slot.{Slot}
-use Rattle.run_core.specs.declared.slot.Slot.TheVariants.{Ready, Done, Left, Empty}
+use Rattle.run_core.specs.declared.slot.Slot.TheVariants.{Ready, Called, Done, Left, Empty}
 use Rattle.run_core.specs.Outcomes.{IsSpent}
 use Rattle.run_core.specs.Steps.Crews.{IsOut}
 
@@ -77,12 +77,14 @@ pub record HasJoined (b : Board) (g : Gathered) (s : Sitter) (h : Gathered) : Ty
 -- the slot has findings, and they are all that was gathered
 abbrev pub MayBegin : {X : Type 0} {P : X → Type 0} → Slot X P → Type 0
 MayBegin (Ready w) = ⊥
+MayBegin (Called r) = ⊥
 MayBegin (Done f) = Unit {0}
 MayBegin (Left s) = ⊥
 MayBegin Empty = ⊥
 
 abbrev pub HasBegunIn : {X : Type 0} {P : X → Type 0} → Slot X P → Gathered → Type 0
 HasBegunIn (Ready w) g = ⊥
+HasBegunIn (Called r) g = ⊥
 HasBegunIn (Done f) g = HasBegun f g
 HasBegunIn (Left s) g = ⊥
 HasBegunIn Empty g = ⊥
@@ -90,12 +92,14 @@ HasBegunIn Empty g = ⊥
 -- what is in a slot may be taken, and was
 abbrev pub MayTakeIn : {X : Type 0} {P : X → Type 0} → Board → Gathered → Slot X P → Type 0
 MayTakeIn b g (Ready w) = ⊥
+MayTakeIn b g (Called r) = ⊥
 MayTakeIn b g (Done f) = MayTakeAll b g f
 MayTakeIn b g (Left s) = MayTake b g s
 MayTakeIn b g Empty = ⊥
 
 abbrev pub HasTakenIn : {X : Type 0} {P : X → Type 0} → Board → Gathered → Slot X P → Gathered → Type 0
 HasTakenIn b g (Ready w) h = ⊥
+HasTakenIn b g (Called r) h = ⊥
 HasTakenIn b g (Done f) h = HasTaken b g f h
 HasTakenIn b g (Left s) h = HasJoined b g s h
 HasTakenIn b g Empty h = ⊥

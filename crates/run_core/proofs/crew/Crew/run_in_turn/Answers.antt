@@ -5,4 +5,4 @@ pub returns-clause-returned : goal.returns-clause-returned
 returns-clause-returned g c =
     let crew = c.args.self.now in
     crew_written crew.words crew.settings.workers crew.settings.budget crew.slots.items c.deref_mut.result.now c.run_in_turn.new.slots
-    crew.slots.len crew.slots.ok.0 c.deref_mut.ensures.value c.requires c.run_in_turn.ensures.len c.run_in_turn.ensures.each
+    crew.slots.len crew.slots.ok.0 c.deref_mut.ensures.value c.requires.crew c.run_in_turn.ensures.len c.run_in_turn.ensures.each

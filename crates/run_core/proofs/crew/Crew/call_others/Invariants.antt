@@ -1,7 +1,7 @@
 use Rattle.std.proofs.Common.{◌≡◌, ◌+◌, ◌≤◌}
 use Rattle.std.specs.Vec.Iter.{into_iter_len}
 use Rattle.run_core.specs.Steps.Crews.{IsHiring}
-use Rattle.run_core.proofs.crew.Crew.hire_others.Given as goal
+use Rattle.run_core.proofs.crew.Crew.call_others.Given as goal
 
 abbrev pub invariant-loop-number : goal.invariant-loop-number
 invariant-loop-number g l =
