@@ -11,6 +11,8 @@ mod course;
 mod found;
 mod journal;
 mod loading;
+#[cfg(test)]
+mod long_tests;
 mod phases;
 mod query;
 mod search;

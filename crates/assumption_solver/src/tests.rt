@@ -25,9 +25,9 @@ const EIGHT: [i32; 32] = [
 
 /// Always picks one number, or the least variable without value.
 #[derive(Drop)]
-struct Steady {
-    number: Option<u32>,
-    count: u64,
+pub(crate) struct Steady {
+    pub number: Option<u32>,
+    pub count: u64,
 }
 
 impl Chooser for Steady {
@@ -56,7 +56,7 @@ impl Chooser for Steady {
 }
 
 /// The literals of these numbers.
-fn literals(alloc: Global, numbers: &[i32]) -> Result<Vec<Lit>, Fail> {
+pub(crate) fn literals(alloc: Global, numbers: &[i32]) -> Result<Vec<Lit>, Fail> {
     let mut lits = Vec::new(alloc);
     for number in numbers {
         lits.push(Lit::of(*number).ok_or("a literal")?)?;
@@ -65,7 +65,7 @@ fn literals(alloc: Global, numbers: &[i32]) -> Result<Vec<Lit>, Fail> {
 }
 
 /// What kind of answer it is.
-fn name(found: &Found) -> &'static str {
+pub(crate) fn name(found: &Found) -> &'static str {
     match found {
         Found::Model(_) => "a model",
         Found::Core { .. } => "a core",
@@ -77,7 +77,7 @@ fn name(found: &Found) -> &'static str {
 }
 
 /// Asks, where a solver may be asked so.
-fn ask(
+pub(crate) fn ask(
     formula: &Formula,
     solver: &mut Solver,
     chooser: &mut Box<dyn Chooser>,
@@ -101,7 +101,7 @@ fn ask(
 }
 
 /// Has a checker take each entry of a log that has no imports.
-fn check(alloc: Global, formula: &Formula, log: &Log) -> Result<Checker, Fail> {
+pub(crate) fn check(alloc: Global, formula: &Formula, log: &Log) -> Result<Checker, Fail> {
     let mut checker = Checker::new(alloc, formula)?;
     let first = formula.clauses().len() as u64 + 1;
     for i in 0..log.len() {
