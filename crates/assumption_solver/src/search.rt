@@ -195,7 +195,19 @@ impl<'f> Search<'f> {
         let id = self.journal.learnt(&clause.lits, hints.as_slice())?;
         self.go_back(back, chooser);
         self.assert_first(&mut clause.lits, id)?;
+        self.recycle(Learnt {
+            lits: clause,
+            back,
+            hints,
+        });
         self.count_clause(chooser)
+    }
+
+    /// Gives the memory of a clause that was learnt back, for the next one.
+    fn recycle(&mut self, learnt: Learnt)
+        ensures { self.new ≡ self.old }
+    {
+        self.analyser.recycle(learnt);
     }
 
     /// Goes back to a level. The variables that lose their values keep their signs.

@@ -28,7 +28,8 @@ pub struct Learnt {
 ///
 /// Its marks and buffers are kept from call to call, and none is cleared by going over the variables:
 /// a mark counts for one call. So a call costs what the clauses cost that it resolves on, and takes
-/// memory for its answer, and for buffers that grow. A call without memory leaves nothing behind.
+/// memory for its answer where none was given back ([`Analyser::recycle`]), and for buffers that grow. A call
+/// without memory leaves nothing behind.
 #[derive(Debug, Drop)]
 pub struct Analyser {
     walk: Walk,
@@ -74,6 +75,13 @@ impl Analyser {
         ensures same { self.new ≡ self.old }
     {
         self.walk.learn(arena, trail, conflict)
+    }
+
+    /// Takes back the memory of an answer, for the next one of [`Analyser::analyse`].
+    pub fn recycle(&mut self, learnt: Learnt)
+        ensures { self.new ≡ self.old }
+    {
+        self.walk.recycle(learnt);
     }
 
     /// The variables above the root that the last [`Analyser::analyse`] met, each once, in the order of meeting:

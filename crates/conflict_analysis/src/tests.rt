@@ -157,6 +157,17 @@ fn wide_learnt(rt: &impl Abort, alloc: Global) -> Result<Learnt, NoMemory> {
     analyser.analyse(&arena, &trail, ClauseRef::at(1))
 }
 
+/// The same, in memory that an answer gave back.
+fn wide_again(rt: &impl Abort, alloc: Global) -> Result<Learnt, NoMemory> {
+    examples_are_ready();
+    let arena = wide_clauses(alloc)?;
+    let trail = wide_trail(rt, alloc)?;
+    let mut analyser = Analyser::new(alloc, 5)?;
+    let learnt = analyser.analyse(&arena, &trail, ClauseRef::at(1))?;
+    analyser.recycle(learnt);
+    analyser.analyse(&arena, &trail, ClauseRef::at(1))
+}
+
 /// Why -3 is false below them.
 fn deep_core(rt: &impl Abort, alloc: Global) -> Result<Learnt, NoMemory> {
     examples_are_ready();
@@ -237,6 +248,13 @@ fn a_conflict_below_two_decisions_teaches_that_one_is_wrong(rt: HostRuntime) -> 
 #[test]
 fn root_literals_stay_out_and_a_level_between_is_jumped_over(rt: HostRuntime) -> Result<(), Fail> {
     let learnt = wide_learnt(&rt, rt.alloc())?;
+    assert!(rt; is_answer(rt.alloc(), &learnt, &[-4, -2], 1, &[3, 1, 2])?);
+    Ok(())
+}
+
+#[test]
+fn an_answer_that_was_given_back_leaves_nothing_in_the_next(rt: HostRuntime) -> Result<(), Fail> {
+    let learnt = wide_again(&rt, rt.alloc())?;
     assert!(rt; is_answer(rt.alloc(), &learnt, &[-4, -2], 1, &[3, 1, 2])?);
     Ok(())
 }

@@ -23,6 +23,7 @@ use cnf_core::{Clause, Lit, NoMemory};
 use lrat_lines::Ids;
 use std::alloc::Global;
 use std::marker::Model;
+use std::mem;
 use trail_core::{Reason, Trail};
 
 /// What a walk over reasons gathers.
@@ -42,6 +43,9 @@ pub struct Walk {
     /// How many of the met literals are left to look at: of those of the present level where a clause is
     /// learnt, and of all where reasons are followed down to decisions.
     count: u32,
+    /// Memory for the next answer's literals and hints, which an answer gave back.
+    spare_lits: Vec<Lit>,
+    spare_hints: Vec<u64>,
 }
 
 impl Model for Walk {
@@ -131,6 +135,8 @@ impl Walk {
             hints: Vec::new(alloc),
             seen: Vec::new(alloc),
             count: 0,
+            spare_lits: Vec::new(alloc),
+            spare_hints: Vec::new(alloc),
         })
     }
 
@@ -209,6 +215,14 @@ impl Walk {
         self.start();
         self.find_unit(arena, trail, lit, place)?;
         self.hints_in_order()
+    }
+
+    /// Takes back the memory of an answer, for the next one.
+    pub fn recycle(&mut self, learnt: Learnt)
+        ensures { self.new ≡ self.old }
+    {
+        self.spare_lits = learnt.lits.lits;
+        self.spare_hints = learnt.hints.ids;
     }
 
     /// The variables above the root that the walk for a clause met.
@@ -390,28 +404,37 @@ impl Walk {
         ensures size { length self.new.stamps ≡ length self.old.stamps }
     {
         push_units(trail, &self.roots, &mut self.hints)?;
+        let back = highest_level(trail, &self.lits);
         Ok(Learnt {
             lits: self.clause(first)?,
-            back: highest_level(trail, &self.lits),
+            back,
             hints: self.hints_in_order()?,
         })
     }
 
-    /// The clause of this literal and those gathered.
-    fn clause(&self, first: Lit) -> Result<Clause, NoMemory>
-        ensures { IfOk result (λ c. c ≡ first ∷ self.now.lits) }
+    /// The clause of this literal and those gathered, in the memory that was given back.
+    fn clause(&mut self, first: Lit) -> Result<Clause, NoMemory>
+        ensures clause { IfOk result (λ c. c ≡ first ∷ self.old.lits) }
+        ensures same { self.new ≡ self.old }
     {
-        let mut lits = Vec::with_capacity(self.allocator(), self.lits.len() + 1)?;
+        let none = Vec::new(self.allocator());
+        let mut lits = mem::replace(&mut self.spare_lits, none);
+        lits.clear();
+        lits.reserve(self.lits.len() + 1)?;
         lits.push_reserved(first);
         lits.extend_from_slice(&self.lits)?;
         Ok(Clause { lits })
     }
 
-    /// The hints in the order in which a checker takes them.
-    fn hints_in_order(&self) -> Result<Ids, NoMemory>
-        ensures { IfOk result (λ ids. ids ≡ reverse self.now.hints) }
+    /// The hints in the order in which a checker takes them, in the memory that was given back.
+    fn hints_in_order(&mut self) -> Result<Ids, NoMemory>
+        ensures hints { IfOk result (λ ids. ids ≡ reverse self.old.hints) }
+        ensures same { self.new ≡ self.old }
     {
-        let mut ids = Vec::from_slice(self.allocator(), &self.hints)?;
+        let none = Vec::new(self.allocator());
+        let mut ids = mem::replace(&mut self.spare_hints, none);
+        ids.clear();
+        ids.extend_from_slice(&self.hints)?;
         ids.reverse();
         Ok(Ids { ids })
     }

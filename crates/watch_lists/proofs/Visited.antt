@@ -1,25 +1,27 @@
 -- A list of watches is gone through: what each step of it keeps.
 use Rattle.std.proofs.Common.{◌≡◌, ◌≢◌, ℕ, ◌+◌, ◌-◌, ◌<◌, ◌≤◌, ◌⊎◌, Bool, true, false, not, eqb, List, [], ◌∷◌, ◌++◌, length, get_or}
 use Rattle.std.proofs.Common.{swap_remove, Contains, refl, sym, ap, ◌∙◌, subst, inl, inr, ⊎_elim, arith}
+use Rattle.std.specs.Int.{from_bool}
 use Rattle.std.proofs.lemmas.List.{length_push, get_or_push, length-set}
 use Rattle.std.proofs.lemmas.Bool.{cases_eq, cases_lt, false≢true}
-use Rattle.cnf_core.specs.Literals.{Literal, negated, IsWithin}
+use Rattle.cnf_core.specs.Literals.{Literal, negated, code_of, IsWithin}
 use Rattle.clause_arena.specs.Entries.{Entry, Entries, no_literal, entry_at, len_of, literal_of, with_swap}
 use Rattle.trail_core.specs.declared.entry.Assigned.{Assigned}
 use Rattle.trail_core.specs.declared.entry.Reason.TheVariants.{Clause}
 use Rattle.trail_core.specs.Trails.{no_entry, assigned_at, HasLiteral, IsFree, IsLeveled, IsTrail, TrailState, with_entry}
+use Rattle.trail_core.proofs.Literals.{same_unless, other_unless}
 use Rattle.watch_lists.specs.Watchers.{Watcher}
 use Rattle.watch_lists.specs.Clauses.{IsLong, IsClean, IsReordered, HasTrueBy, IsFalsified, HasTrue}
 use Rattle.trail_core.specs.TrueAndFalse.{HasLiteralBefore}
 use Rattle.watch_lists.specs.Lists.{WatchLists, no_watch, list_of, watch_at, with_watch, IsSound, HasWatchFrom, IsAttached}
 use Rattle.watch_lists.specs.Steps.Lists.{with_watch_at, without_watch}
 use Rattle.watch_lists.specs.Watching.{IsWatched, IsReady}
-use Rattle.watch_lists.specs.Steps.Visiting.{IsOther, AreFalseBelow, IsPending, IsVisiting, IsAdvanced, FateSays, ForceSays}
+use Rattle.watch_lists.specs.Steps.Visiting.{IsOther, IsWatchPlace, AreFalseBelow, IsPending, IsVisiting, IsAdvanced, FateSays, ForceSays}
 use Rattle.watch_lists.specs.Propagating.{IsPropagated}
 use Rattle.watch_lists.specs.declared.step.Fate.{Fate}
 use Rattle.watch_lists.specs.declared.step.Fate.TheVariants.{Keep, Move, Falsified, NoRoom}
 use Rattle.watch_lists.proofs.Orders.{place_of, reordered_refl, reordered_trans, reordered_sym, reordered_swap, long_after, member_after}
-use Rattle.watch_lists.proofs.Orders.{literal_member, literal_first, literal_second, literal_other, at_unswapped}
+use Rattle.watch_lists.proofs.Orders.{literal_member, literal_first, literal_other, at_unswapped}
 use Rattle.watch_lists.proofs.Fronts.{IsFront, front_refl, front_push, front_trans, at_front, literal_kept, literal_pushed, true_kept}
 use Rattle.watch_lists.proofs.Fronts.{true_by_kept, forced_kept, free_of_open, negated_twice}
 use Rattle.watch_lists.proofs.Attached.{two_cases, literal_eq, has_set, has_removed, has_pushed, length-removed, list_set, list_unset}
@@ -135,38 +137,6 @@ pending_swap a es w f start r i j h here first second rest =
           old;
     }
 
--- the two watches exchanged
-pub visiting_swap : (a : Entries) (w : WatchLists) (t : TrailState) (f : Literal) (start r : ℕ) → IsVisiting a w t f start
-    → IsLong a r → IsVisiting (with_swap a r 0 1) w t f start
-visiting_swap a w t f start r v long =
-    let here = long.live.present in
-    let zeroth : 0 < len_of a r = omega (arith, long.long) in
-    let first : 1 < len_of a r = omega (arith, long.long) in
-    let g = v.ready in
-    let b = with_swap a r 0 1 in
-    let left : literal_of b r 0 ≡ literal_of a r 1 = literal_first a r 0 1 here zeroth first in
-    let right : literal_of b r 1 ≡ literal_of a r 0 = literal_second a r 0 1 here zeroth first in
-    let from : (m : ℕ) (A : Literal → Type 0) → m < 2 → ((n : ℕ) → n < 2 → A (literal_of a r n)) → A (literal_of b r m) =
-    λ m A lt each. two_cases m (A (literal_of b r m)) lt
-    (λ at. subst (λ (n : ℕ). A (literal_of b r n)) (sym at) (subst A (sym left) (each 1 (omega arith))))
-    (λ at. subst (λ (n : ℕ). A (literal_of b r n)) (sym at) (subst A (sym right) (each 0 (omega arith)))) in record {
-      ready = record {
-        vars = g.vars;
-        attached = attached_swap a w r 0 1 g.attached here zeroth first
-            (λ m lt. from m (λ l. HasWatchFrom (list_of w l) r 0) lt (λ n two. g.attached.complete r n long two));
-        watched = watched_swap a t r 0 1 g.watched here zeroth first
-            (λ m p two lt is. from m
-            (λ l. (assigned_at t.entries p).lit ≡ negated l → HasTrueBy a t.entries r (assigned_at t.entries p).level) two
-            (λ n small was. g.watched.rule r n p long small lt was) is);
-        gone = g.gone;
-        present = g.present;
-      };
-      made_false = v.made_false;
-      pending = pending_swap a t.entries w f start r 0 1 v.pending here zeroth first
-          (λ m two is. from m (λ l. l ≡ f → HasTrue a t.entries r ⊎ HasWatchFrom (list_of w f) r start) two
-          (λ n small was. v.pending.rest r n long small was) is);
-    }
-
 -- ---- the watch of a place is done
 
 pending_next : (a : Entries) (es : List Assigned) (w v : WatchLists) (f : Literal) (start r : ℕ) → IsPending a es w f start
@@ -273,108 +243,114 @@ distinct_literals : (n : ℕ) (a : Entries) (r i j : ℕ) → IsClean n (entry_a
     → literal_of a r i ≢ literal_of a r j
 distinct_literals n a r i j c first second apart same = apart (c.distinct i j first second (ap (λ (l : Literal). l.var) same))
 
+-- one of the first two places is the one or the other
+pair_cases : (m p q : ℕ) (A : Type 0) → m < 2 → p + q ≡ 1 → (m ≡ q → A) → (m ≡ p → A) → A
+pair_cases m p q A lt two other one = ⊎_elim one (λ (ne : m ≢ p). other (omega (arith, two))) (cases_eq m p)
+
 -- with the watch in the new list, and the literals exchanged
-visiting_exchanged : (a : Entries) (w : WatchLists) (t : TrailState) (f : Literal) (start r k : ℕ) (x : Watcher)
-    → IsVisiting a w t f start → IsWithin w.vars f → IsLong a r → literal_of a r 1 ≡ f → IsOther a t.entries r k
+visiting_exchanged : (a : Entries) (w : WatchLists) (t : TrailState) (f : Literal) (start r p q k : ℕ) (x : Watcher)
+    → IsVisiting a w t f start → IsWithin w.vars f → IsLong a r → p + q ≡ 1 → literal_of a r p ≡ f → IsOther a t.entries r k
     → x.clause ≡ r → IsSound a (literal_of a r k) x
-    → IsVisiting (with_swap a r 1 k) (with_watch w (literal_of a r k) x) t f start
-visiting_exchanged a w t f start r k x v within long second o clause sound =
+    → IsVisiting (with_swap a r p k) (with_watch w (literal_of a r k) x) t f start
+visiting_exchanged a w t f start r p q k x v within long two held o clause sound =
     let g = v.ready in
     let l = literal_of a r k in
     let u = with_watch w l x in
-    let b = with_swap a r 1 k in
+    let b = with_swap a r p k in
     let here = long.live.present in
-    let one : 1 < len_of a r = omega (arith, long.long) in
+    let here_p : p < len_of a r = omega (arith, long.long, two) in
+    let here_q : q < len_of a r = omega (arith, long.long, two) in
     let clean = g.attached.clean r long in
     let behind = o.behind in
-    let is_other : l ≢ f = λ e. distinct_literals w.vars a r k 1 clean o.within one (λ s. omega (arith, s)) (e ∙ sym second) in
+    let is_other : l ≢ f = λ e. distinct_literals w.vars a r k p clean o.within here_p (λ s. omega (arith, s, two, behind)) (e ∙ sym held) in
     let same : list_of u f ≡ list_of w f = list_unset w l f (list_of w l ++ x ∷ []) (λ e. is_other (sym e)) in
     let added = attached_add a w l x g.attached (clean.within k o.within) sound in
-    let left : literal_of b r 0 ≡ literal_of a r 0 = literal_other a r 1 k 0 here one o.within (λ e. omega (arith, e))
-    (λ e. omega (arith, e)) in
-    let right : literal_of b r 1 ≡ l = literal_first a r 1 k here one o.within in
+    let kept : literal_of b r q ≡ literal_of a r q = literal_other a r p k q here here_p o.within (λ e. omega (arith, e, two))
+    (λ e. omega (arith, e, two, behind)) in
+    let new : literal_of b r p ≡ l = literal_first a r p k here here_p o.within in
     let listed : HasWatchFrom (list_of u l) r 0 =
     subst (λ (xs : List Watcher). HasWatchFrom xs r 0) (sym (list_set w l (list_of w l ++ x ∷ []) g.attached.size
     (clean.within k o.within)))
     (subst (λ (z : ℕ). HasWatchFrom (list_of w l ++ x ∷ []) z 0) clause (has_pushed (list_of w l) x)) in
-    let away : (m : ℕ) → m < 2 → literal_of b r m ≢ f = λ m two is. two_cases m ⊥ two
-    (λ at. distinct_literals w.vars a r 0 1 clean (omega arith) one (λ s. omega (arith, s))
-    (sym left ∙ ap (λ (n : ℕ). literal_of b r n) (sym at) ∙ is ∙ sym second))
-    (λ at. is_other (sym right ∙ ap (λ (n : ℕ). literal_of b r n) (sym at) ∙ is)) in
+    let away : (m : ℕ) → m < 2 → literal_of b r m ≢ f = λ m lt is. pair_cases m p q ⊥ lt two
+    (λ at. distinct_literals w.vars a r q p clean here_q here_p (λ s. omega (arith, s, two))
+    (sym kept ∙ ap (λ (n : ℕ). literal_of b r n) (sym at) ∙ is ∙ sym held))
+    (λ at. is_other (sym new ∙ ap (λ (n : ℕ). literal_of b r n) (sym at) ∙ is)) in
     let was : IsPending a t.entries u f start = record {
-      rest = λ s m lng two is. subst (λ (xs : List Watcher). HasTrue a t.entries s ⊎ HasWatchFrom xs s start) (sym same)
-          (v.pending.rest s m lng two is);
+      rest = λ s m lng lt is. subst (λ (xs : List Watcher). HasTrue a t.entries s ⊎ HasWatchFrom xs s start) (sym same)
+          (v.pending.rest s m lng lt is);
     } in record {
       ready = record {
         vars = g.vars;
-        attached = attached_swap a u r 1 k added here one o.within
-            (λ m two. two_cases m (HasWatchFrom (list_of u (literal_of b r m)) r 0) two
+        attached = attached_swap a u r p k added here here_p o.within
+            (λ m lt. pair_cases m p q (HasWatchFrom (list_of u (literal_of b r m)) r 0) lt two
             (λ at. subst (λ (n : ℕ). HasWatchFrom (list_of u (literal_of b r n)) r 0) (sym at)
-            (subst (λ (q : Literal). HasWatchFrom (list_of u q) r 0) (sym left) (added.complete r 0 long (omega arith))))
+            (subst (λ (z : Literal). HasWatchFrom (list_of u z) r 0) (sym kept) (added.complete r q long (omega (arith, two)))))
             (λ at. subst (λ (n : ℕ). HasWatchFrom (list_of u (literal_of b r n)) r 0) (sym at)
-            (subst (λ (q : Literal). HasWatchFrom (list_of u q) r 0) (sym right) listed)));
-        watched = watched_swap a t r 1 k g.watched here one o.within
-            (λ m p two lt is. two_cases m (HasTrueBy a t.entries r (assigned_at t.entries p).level) two
-            (λ at. g.watched.rule r 0 p long (omega arith) lt
-            (is ∙ ap (λ (n : ℕ). negated (literal_of b r n)) at ∙ ap negated left))
+            (subst (λ (z : Literal). HasWatchFrom (list_of u z) r 0) (sym new) listed)));
+        watched = watched_swap a t r p k g.watched here here_p o.within
+            (λ m e below lt is. pair_cases m p q (HasTrueBy a t.entries r (assigned_at t.entries e).level) below two
+            (λ at. g.watched.rule r q e long (omega (arith, two)) lt
+            (is ∙ ap (λ (n : ℕ). negated (literal_of b r n)) at ∙ ap negated kept))
             (λ at. absurd (o.not_false
             (record {
-              place = p;
+              place = e;
               within = omega (arith, g.gone);
-              lit = is ∙ ap (λ (n : ℕ). negated (literal_of b r n)) at ∙ ap negated right;
+              lit = is ∙ ap (λ (n : ℕ). negated (literal_of b r n)) at ∙ ap negated new;
             }))));
         gone = g.gone;
         present = g.present;
       };
       made_false = v.made_false;
-      pending = pending_swap a t.entries u f start r 1 k was here one o.within (λ m two is. absurd (away m two is));
+      pending = pending_swap a t.entries u f start r p k was here here_p o.within (λ m lt is. absurd (away m lt is));
     }
 
-pub visiting_moved : (a : Entries) (w : WatchLists) (t : TrailState) (f : Literal) (start r k : ℕ) (x : Watcher)
+pub visiting_moved : (a : Entries) (w : WatchLists) (t : TrailState) (f : Literal) (start r p q k : ℕ) (x : Watcher)
     → IsVisiting a w t f start → IsWithin w.vars f → start < length (list_of w f) → (watch_at w f start).clause ≡ r
-    → IsLong a r → literal_of a r 1 ≡ f → IsOther a t.entries r k → x.clause ≡ r → IsSound a (literal_of a r k) x
+    → IsLong a r → p + q ≡ 1 → literal_of a r p ≡ f → IsOther a t.entries r k → x.clause ≡ r → IsSound a (literal_of a r k) x
     → (length (list_of (without_watch (with_watch w (literal_of a r k) x) f start) f) + 1 ≡ length (list_of w f))
-    × IsVisiting (with_swap a r 1 k) (without_watch (with_watch w (literal_of a r k) x) f start) t f start
-visiting_moved a w t f start r k x v within lt is long second o clause sound =
+    × IsVisiting (with_swap a r p k) (without_watch (with_watch w (literal_of a r k) x) f start) t f start
+visiting_moved a w t f start r p q k x v within lt is long two held o clause sound =
     let l = literal_of a r k in
     let u = with_watch w l x in
-    let b = with_swap a r 1 k in
+    let b = with_swap a r p k in
     let here = long.live.present in
-    let one : 1 < len_of a r = omega (arith, long.long) in
+    let here_p : p < len_of a r = omega (arith, long.long, two) in
+    let here_q : q < len_of a r = omega (arith, long.long, two) in
     let behind = o.behind in
     let clean = v.ready.attached.clean r long in
-    let is_other : l ≢ f = λ e. distinct_literals w.vars a r k 1 clean o.within one (λ s. omega (arith, s)) (e ∙ sym second) in
+    let is_other : l ≢ f = λ e. distinct_literals w.vars a r k p clean o.within here_p (λ s. omega (arith, s, two, behind)) (e ∙ sym held) in
     let same : list_of u f ≡ list_of w f = list_unset w l f (list_of w l ++ x ∷ []) (λ e. is_other (sym e)) in
-    let mid = visiting_exchanged a w t f start r k x v within long second o clause sound in
+    let mid = visiting_exchanged a w t f start r p q k x v within long two held o clause sound in
     let fits : start < length (list_of u f) = omega (arith, ap (λ (xs : List Watcher). length xs) same) in
     let at_clause : (watch_at u f start).clause ≡ r = ap (λ (xs : List Watcher). (get_or xs start no_watch).clause) same ∙ is in
-    let left : literal_of b r 0 ≡ literal_of a r 0 = literal_other a r 1 k 0 here one o.within (λ e. omega (arith, e))
-    (λ e. omega (arith, e)) in
-    let right : literal_of b r 1 ≡ l = literal_first a r 1 k here one o.within in
-    let away : (m : ℕ) → m < 2 → literal_of b r m ≢ f = λ m two e. two_cases m ⊥ two
-    (λ at. distinct_literals w.vars a r 0 1 clean (omega arith) one (λ s. omega (arith, s))
-    (sym left ∙ ap (λ (n : ℕ). literal_of b r n) (sym at) ∙ e ∙ sym second))
-    (λ at. is_other (sym right ∙ ap (λ (n : ℕ). literal_of b r n) (sym at) ∙ e)) in
+    let kept : literal_of b r q ≡ literal_of a r q = literal_other a r p k q here here_p o.within (λ e. omega (arith, e, two))
+    (λ e. omega (arith, e, two, behind)) in
+    let new : literal_of b r p ≡ l = literal_first a r p k here here_p o.within in
+    let away : (m : ℕ) → m < 2 → literal_of b r m ≢ f = λ m below e. pair_cases m p q ⊥ below two
+    (λ at. distinct_literals w.vars a r q p clean here_q here_p (λ s. omega (arith, s, two))
+    (sym kept ∙ ap (λ (n : ℕ). literal_of b r n) (sym at) ∙ e ∙ sym held))
+    (λ at. is_other (sym new ∙ ap (λ (n : ℕ). literal_of b r n) (sym at) ∙ e)) in
     let done = visiting_removed b u t f start mid within fits
-    (λ m two e. away m two (ap (λ (z : ℕ). literal_of b z m) (sym at_clause) ∙ e)) in
+    (λ m below e. away m below (ap (λ (z : ℕ). literal_of b z m) (sym at_clause) ∙ e)) in
     (length-without u f start mid.ready.attached.size within fits ∙ ap (λ (xs : List Watcher). length xs) same, done)
 
--- ---- all literals but the first are false
+-- ---- all literals but one of the first two are false
 
-rest_false : (a : Entries) (es : List Assigned) (r : ℕ) (f : Literal) → literal_of a r 1 ≡ f → HasLiteral es (negated f)
-    → AreFalseBelow a es r (len_of a r) → (l : Literal) → Contains (entry_at a r).lits l → l ≢ literal_of a r 0
+rest_false : (a : Entries) (es : List Assigned) (r p q : ℕ) (f : Literal) → p + q ≡ 1 → literal_of a r p ≡ f → HasLiteral es (negated f)
+    → AreFalseBelow a es r (len_of a r) → (l : Literal) → Contains (entry_at a r).lits l → l ≢ literal_of a r q
     → HasLiteral es (negated l)
-rest_false a es r f second made h l member other =
-    let p = place_of a r l member in
+rest_false a es r p q f two held made h l member other =
+    let at_place = place_of a r l member in
     ⊎_elim
-    (λ (at : p.place ≡ 0). absurd (other (sym p.lit ∙ ap (λ (n : ℕ). literal_of a r n) at)))
-    (λ (not_zero : p.place ≢ 0). ⊎_elim
-    (λ (at : p.place ≡ 1).
-    subst (λ (k : Literal). HasLiteral es (negated k)) (sym second ∙ ap (λ (n : ℕ). literal_of a r n) (sym at) ∙ p.lit) made)
-    (λ (not_one : p.place ≢ 1).
-    subst (λ (k : Literal). HasLiteral es (negated k)) p.lit (h.each p.place (omega arith) p.within))
-    (cases_eq p.place 1))
-    (cases_eq p.place 0)
+    (λ (at : at_place.place ≡ q). absurd (other (sym at_place.lit ∙ ap (λ (n : ℕ). literal_of a r n) at)))
+    (λ (not_q : at_place.place ≢ q). ⊎_elim
+    (λ (at : at_place.place ≡ p).
+    subst (λ (k : Literal). HasLiteral es (negated k)) (sym held ∙ ap (λ (n : ℕ). literal_of a r n) (sym at) ∙ at_place.lit) made)
+    (λ (not_p : at_place.place ≢ p).
+    subst (λ (k : Literal). HasLiteral es (negated k)) at_place.lit (h.each at_place.place (omega (arith, two)) at_place.within))
+    (cases_eq at_place.place p))
+    (cases_eq at_place.place q)
 
 -- all literals of a live clause but one are false, and that one isn't true
 pub record IsLast (a : Entries) (t : TrailState) (r : ℕ) (l : Literal) : Type 0 where
@@ -517,26 +493,26 @@ pub long_of : (a : Entries) (w : WatchLists) (t : TrailState) (f : Literal) (sta
 long_of a w t f start r v lt is =
     subst (IsLong a) is (v.ready.attached.sound f start lt).long
 
--- the first literal, where all others are false
-pub last_first : (a : Entries) (w : WatchLists) (t : TrailState) (f : Literal) (start r : ℕ) (l : Literal) → IsVisiting a w t f start
-    → start < length (list_of w f) → (watch_at w f start).clause ≡ r → literal_of a r 1 ≡ f
-    → AreFalseBelow a t.entries r (len_of a r) → l ≡ literal_of a r 0 → (HasLiteral t.entries l → ⊥) → IsLast a t r l
-last_first a w t f start r l v lt is second rest first not_true =
+-- the other literal that the clause watches, where the rest is false
+pub last_other : (a : Entries) (w : WatchLists) (t : TrailState) (f : Literal) (start r p q : ℕ) (l : Literal)
+    → IsVisiting a w t f start → start < length (list_of w f) → (watch_at w f start).clause ≡ r → p + q ≡ 1 → literal_of a r p ≡ f
+    → AreFalseBelow a t.entries r (len_of a r) → l ≡ literal_of a r q → (HasLiteral t.entries l → ⊥) → IsLast a t r l
+last_other a w t f start r p q l v lt is two held rest other not_true =
     let long = long_of a w t f start r v lt is in record {
       long = long;
-      member = subst (λ (n : Literal). Contains (entry_at a r).lits n) (sym first) (literal_member a r 0 (omega (arith, long.long)));
-      others = λ k member other. rest_false a t.entries r f second v.made_false rest k member (λ e. other (e ∙ sym first));
+      member = subst (λ (n : Literal). Contains (entry_at a r).lits n) (sym other) (literal_member a r q (omega (arith, long.long, two)));
+      others = λ k member apart. rest_false a t.entries r p q f two held v.made_false rest k member (λ e. apart (e ∙ sym other));
       not_true = not_true;
     }
 
-pub settled_true : (a : Entries) (w v : WatchLists) (t : TrailState) (f : Literal) (start r : ℕ) (l : Literal)
+pub settled_true : (a : Entries) (w v : WatchLists) (t : TrailState) (f : Literal) (start r p q : ℕ) (l : Literal)
     → IsVisiting a w t f start → IsWithin w.vars f → start < length (list_of w f) → (watch_at w f start).clause ≡ r
-    → l ≡ literal_of a r 0 → HasLiteral t.entries l → v ≡ with_watch_at w f start (unmarked r l)
+    → p + q ≡ 1 → l ≡ literal_of a r q → HasLiteral t.entries l → v ≡ with_watch_at w f start (unmarked r l)
     → (length (list_of v f) ≡ length (list_of w f)) × IsVisiting a v t f (start + 1)
-settled_true a w v t f start r l h within lt is first made new =
+settled_true a w v t f start r p q l h within lt is two other made new =
     let x : Watcher = unmarked r l in
     let long = long_of a w t f start r h lt is in
-    let member = subst (λ (k : Literal). Contains (entry_at a r).lits k) (sym first) (literal_member a r 0 (omega (arith, long.long))) in
+    let member = subst (λ (k : Literal). Contains (entry_at a r).lits k) (sym other) (literal_member a r q (omega (arith, long.long, two))) in
     let u = with_watch_at w f start x in
     let size : length (list_of u f) ≡ length (list_of w f) =
     ap (λ (xs : List Watcher). length xs) (list_set w f (Rattle.std.proofs.Common.set (list_of w f) start x) h.ready.attached.size within)
@@ -545,73 +521,66 @@ settled_true a w v t f start r l h within lt is first made new =
     (size, visiting_set a w t f start r l h within lt is long member made)
 
 -- the watch moves
-pub record IsMoved (a b : Entries) (w v : WatchLists) (t : TrailState) (f : Literal) (start r k : ℕ) : Type 0 where
+pub record IsMoved (a b : Entries) (w v : WatchLists) (t : TrailState) (f : Literal) (start r p q k : ℕ) : Type 0 where
   pub visiting : IsVisiting a w t f start
   pub within : IsWithin w.vars f
   pub place : start < length (list_of w f)
   pub watch : (watch_at w f start).clause ≡ r
-  pub second : literal_of a r 1 ≡ f
+  pub two : p + q ≡ 1
+  pub held : literal_of a r p ≡ f
   pub other : IsOther a t.entries r k
-  pub arena : b ≡ with_swap a r 1 k
-  pub lists : v ≡ without_watch (with_watch w (literal_of a r k) (unmarked r (literal_of a r 0))) f start
+  pub arena : b ≡ with_swap a r p k
+  pub lists : v ≡ without_watch (with_watch w (literal_of a r k) (unmarked r (literal_of a r q))) f start
 
-pub moved_arena : (a b : Entries) (w v : WatchLists) (t : TrailState) (f : Literal) (start r k : ℕ)
-    → IsMoved a b w v t f start r k → IsAdvanced a t b t
-moved_arena a b w v t f start r k m =
+pub moved_arena : (a b : Entries) (w v : WatchLists) (t : TrailState) (f : Literal) (start r p q k : ℕ)
+    → IsMoved a b w v t f start r p q k → IsAdvanced a t b t
+moved_arena a b w v t f start r p q k m =
     let long = long_of a w t f start r m.visiting m.place m.watch in
     subst (λ (z : Entries). IsAdvanced a t z t) (sym m.arena)
-    (advanced_swap a t r 1 k long.live.present (omega (arith, long.long)) m.other.within)
+    (advanced_swap a t r p k long.live.present (omega (arith, long.long, m.two)) m.other.within)
 
-pub moved_watch : (a b : Entries) (w v : WatchLists) (t : TrailState) (f : Literal) (start r k : ℕ)
-    → IsMoved a b w v t f start r k → (length (list_of v f) + 1 ≡ length (list_of w f)) × IsVisiting b v t f start
-moved_watch a b w v t f start r k m =
+pub moved_watch : (a b : Entries) (w v : WatchLists) (t : TrailState) (f : Literal) (start r p q k : ℕ)
+    → IsMoved a b w v t f start r p q k → (length (list_of v f) + 1 ≡ length (list_of w f)) × IsVisiting b v t f start
+moved_watch a b w v t f start r p q k m =
     let long = long_of a w t f start r m.visiting m.place m.watch in
-    let x : Watcher = unmarked r (literal_of a r 0) in
-    let done = visiting_moved a w t f start r k x m.visiting m.within m.place m.watch long m.second m.other refl
-    (record { long = long; blocker = literal_member a r 0 (omega (arith, long.long)); pair = λ two. absurd (false≢true two) }) in
+    let x : Watcher = unmarked r (literal_of a r q) in
+    let done = visiting_moved a w t f start r p q k x m.visiting m.within m.place m.watch long m.two m.held m.other refl
+    (record { long = long; blocker = literal_member a r q (omega (arith, long.long, m.two)); pair = λ two. absurd (false≢true two) }) in
     let u = without_watch (with_watch w (literal_of a r k) x) f start in
     subst (λ (z : WatchLists). (length (list_of z f) + 1 ≡ length (list_of w f)) × IsVisiting b z t f start) (sym m.lists)
     (subst (λ (z : Entries). (length (list_of u f) + 1 ≡ length (list_of w f)) × IsVisiting z u t f start) (sym m.arena) done)
 
--- ---- the false literal comes to the second place
+-- ---- the place of the false literal
 
-pub record IsTurned (a b : Entries) (w : WatchLists) (t : TrailState) (f : Literal) (start r : ℕ) : Type 0 where
-  pub visiting : IsVisiting b w t f start
-  pub second : literal_of b r 1 ≡ f
-  pub advanced : IsAdvanced a t b t
-
-pub turned_swapped : (a b : Entries) (w : WatchLists) (t : TrailState) (f : Literal) (start r : ℕ) → IsVisiting a w t f start
-    → start < length (list_of w f) → (watch_at w f start).clause ≡ r → literal_of a r 0 ≡ f → b ≡ with_swap a r 0 1
-    → IsTurned a b w t f start r
-turned_swapped a b w t f start r v lt is first new =
-    let long = long_of a w t f start r v lt is in
-    let zeroth : 0 < len_of a r = omega (arith, long.long) in
-    let one : 1 < len_of a r = omega (arith, long.long) in
-    let turned : IsTurned a (with_swap a r 0 1) w t f start r = record {
-      visiting = visiting_swap a w t f start r v long;
-      second = literal_second a r 0 1 long.live.present zeroth one ∙ first;
-      advanced = advanced_swap a t r 0 1 long.live.present zeroth one;
-    } in
-    subst (λ (z : Entries). IsTurned a z w t f start r) (sym new) turned
-
-pub turned_same : (a b : Entries) (w : WatchLists) (t : TrailState) (f : Literal) (start r : ℕ) → IsVisiting a w t f start
-    → literal_of a r 1 ≡ f → b ≡ a → IsTurned a b w t f start r
-turned_same a b w t f start r v second same =
-    let turned : IsTurned a a w t f start r = record { visiting = v; second = second; advanced = advanced_refl a t } in
-    subst (λ (z : Entries). IsTurned a z w t f start r) (sym same) turned
+pub place_found : (a : Entries) (r : ℕ) (k f : Literal) (b : Bool) (p : ℕ) → k ≡ literal_of a r 0
+    → b ≡ not (eqb (code_of k) (code_of f)) → p ≡ from_bool b → IsWatchPlace a r f p
+place_found a r k f true p first is at = record {
+  watched = omega (arith, at);
+  zeroth = λ e. absurd (omega (arith, e, at));
+  first = λ e same. other_unless k f true is refl (first ∙ same);
+}
+place_found a r k f false p first is at = record {
+  watched = omega (arith, at);
+  zeroth = λ e. sym first ∙ same_unless k f false is refl;
+  first = λ e. absurd (omega (arith, e, at));
+}
 
 -- the watch is out of date
-pub outdated : (a : Entries) (w v : WatchLists) (t : TrailState) (f : Literal) (start r : ℕ) → IsVisiting a w t f start
+pub outdated : (a : Entries) (w v : WatchLists) (t : TrailState) (f : Literal) (start r p : ℕ) → IsVisiting a w t f start
     → IsWithin w.vars f → start < length (list_of w f) → (watch_at w f start).clause ≡ r
-    → literal_of a r 0 ≢ f → literal_of a r 1 ≢ f → v ≡ without_watch w f start
+    → IsWatchPlace a r f p → literal_of a r p ≢ f → v ≡ without_watch w f start
     → (length (list_of v f) + 1 ≡ length (list_of w f)) × IsVisiting a v t f start
-outdated a w v t f start r h within lt is first second new =
+outdated a w v t f start r p h within lt is found apart new =
+    let second : p ≡ 1 = ⊎_elim
+    (λ (at : p ≡ 0). absurd (apart (ap (λ (n : ℕ). literal_of a r n) at ∙ found.zeroth at)))
+    (λ (past : p ≢ 0). omega (arith, found.watched))
+    (cases_eq p 0) in
     let done = visiting_removed a w t f start h within lt
     (λ m two same.
     let same' : literal_of a r m ≡ f = ap (λ (z : ℕ). literal_of a z m) (sym is) ∙ same in
     two_cases m ⊥ two
-    (λ at. first (ap (λ (n : ℕ). literal_of a r n) (sym at) ∙ same'))
-    (λ at. second (ap (λ (n : ℕ). literal_of a r n) (sym at) ∙ same'))) in
+    (λ at. found.first second (ap (λ (n : ℕ). literal_of a r n) (sym at) ∙ same'))
+    (λ at. apart (ap (λ (n : ℕ). literal_of a r n) (second ∙ sym at) ∙ same'))) in
     subst (λ (z : WatchLists). (length (list_of z f) + 1 ≡ length (list_of w f)) × IsVisiting a z t f start) (sym new)
     (length-without w f start h.ready.attached.size within lt, done)
 

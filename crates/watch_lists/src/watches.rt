@@ -7,7 +7,7 @@ ghost use Rattle.watch_lists.specs.Lists.{IsSized, list_of, watch_at, empty_list
 ghost use Rattle.watch_lists.specs.Moving.{GoDown, moved_list, moved_lists};
 ghost use Rattle.watch_lists.specs.Steps.Lists.{with_watch_at, without_watch};
 ghost use Rattle.watch_lists.specs.Watching.{IsReady};
-ghost use Rattle.watch_lists.specs.Steps.Visiting.{IsOther, AreFalseBelow, IsAdvanced, IsVisiting, FateSays, ForceSays, VisitSays};
+ghost use Rattle.watch_lists.specs.Steps.Visiting.{IsOther, IsWatchPlace, AreFalseBelow, IsAdvanced, IsVisiting, FateSays, ForceSays, VisitSays};
 ghost use Rattle.watch_lists.specs.Propagating.{IsPropagated, StepSays};
 
 use crate::Step;
@@ -231,9 +231,8 @@ impl Watches {
         Step::Quiet
     }
 
-    /// Looks at one watch of a false literal, and at its clause where the watch doesn't say enough. Then the
-    /// literal comes to the clause's second place; where it is in neither of the first two, the watch is out
-    /// of date.
+    /// Looks at one watch of a false literal, and at its clause where the watch doesn't say enough. Where the
+    /// literal is in neither of the clause's first two places, the watch is out of date.
     #[inline(always)]
     fn look(&mut self, arena: &mut Arena, trail: &mut Trail, lit: Lit, at: usize) -> Fate
         requires visiting { IsVisiting arena.old self.old trail.old lit at }
@@ -251,17 +250,17 @@ impl Watches {
         if watch.is_binary() {
             return force(trail, blocker, r);
         }
-        if arena.lit(r, 0) == lit {
-            arena.swap(r, 0, 1);
-        } else if arena.lit(r, 1) != lit {
+        let place = watch_place(arena, r, lit);
+        if arena.lit(r, place) != lit {
             self.take_out(lit, at);
             return Fate::Move;
         }
-        self.settle(arena, trail, lit, at, r)
+        self.settle(arena, trail, lit, at, r, place)
     }
 
-    /// Looks at a clause whose second literal is false: keeps its watch where the first one is true, moves it
-    /// to a literal that isn't false where there is one, and else makes the first literal true.
+    /// Looks at a clause whose literal at one of the first two places is false: keeps its watch where the other
+    /// of the two is true, moves it to a literal that isn't false where there is one, and else makes the other
+    /// literal true.
     #[inline(always)]
     fn settle(
         &mut self,
@@ -270,32 +269,34 @@ impl Watches {
         lit: Lit,
         at: usize,
         r: ClauseRef,
+        place: u64,
     ) -> Fate
         requires visiting { IsVisiting arena.old self.old trail.old lit at }
         requires within { IsWithin self.old.vars lit }
         requires place { at < length (list_of self.old lit) }
         requires watch { (watch_at self.old lit at).clause ≡ r }
         requires named { r < 2 ^ 31 }
-        requires second { literal_of arena.old r 1 ≡ lit }
+        requires watched { place < 2 }
+        requires held { literal_of arena.old r place ≡ lit }
         ensures advanced { IsAdvanced arena.old trail.old arena.new trail.new }
         ensures fate { FateSays result arena.new self.old self.new trail.new lit at }
     {
-        let first = arena.lit(r, 0);
-        if trail.is_true(first) {
-            self.set(lit, at, Watch::new(r, first, false));
+        let other = arena.lit(r, 1 - place);
+        if trail.is_true(other) {
+            self.set(lit, at, Watch::new(r, other, false));
             return Fate::Keep;
         }
         match find_other(arena, trail, r) {
             Some(k) => {
-                match self.add(arena.lit(r, k), Watch::new(r, first, false)) {
+                match self.add(arena.lit(r, k), Watch::new(r, other, false)) {
                     Ok(()) => {}
                     Err(_) => return Fate::NoRoom,
                 }
-                arena.swap(r, 1, k);
+                arena.swap(r, place, k);
                 self.take_out(lit, at);
                 Fate::Move
             }
-            None => force(trail, first, r),
+            None => force(trail, other, r),
         }
     }
 }
@@ -314,6 +315,15 @@ fn follow_moves(list: &mut Vec<Watch>, moves: &Moves)
         kept += 1;
     }
     list.truncate(kept);
+}
+
+/// The place of a literal that a clause watches, 0 or 1; 1 too where the clause watches it no more.
+#[inline(always)]
+fn watch_place(arena: &Arena, r: ClauseRef, lit: Lit) -> u64
+    requires { IsLong arena.now r }
+    ensures { IsWatchPlace arena.now r lit result }
+{
+    u64::from(arena.lit(r, 0) != lit)
 }
 
 /// Makes the one literal of a clause true whose others are all false; where it is false too, so is the clause.

@@ -1,5 +1,5 @@
 -- How one list of watches is gone through.
-use Rattle.std.specs.Prelude.{◌≡◌, ℕ, ◌+◌, ◌<◌, ◌≤◌, ◌⊎◌, List, length}
+use Rattle.std.specs.Prelude.{◌≡◌, ◌≢◌, ℕ, ◌+◌, ◌<◌, ◌≤◌, ◌⊎◌, List, length}
 use Rattle.cnf_core.specs.Literals.{Literal}
 use Rattle.clause_arena.specs.Entries.{Entries, len_of, literal_of}
 use Rattle.trail_core.specs.declared.entry.Assigned.{Assigned}
@@ -14,6 +14,12 @@ use Rattle.watch_lists.specs.Clauses.{HasTrue, IsLong, IsReordered, IsFalsified}
 use Rattle.watch_lists.specs.Lists.{WatchLists, HasWatchFrom, list_of}
 use Rattle.watch_lists.specs.Watching.{IsReady}
 use Rattle.watch_lists.specs.Propagating.{IsPropagated}
+
+-- the place of a literal that is at one of the first two
+pub record IsWatchPlace (a : Entries) (r : ℕ) (f : Literal) (place : ℕ) : Type 0 where
+  pub watched : place < 2
+  pub zeroth : place ≡ 0 → literal_of a r 0 ≡ f
+  pub first : place ≡ 1 → literal_of a r 0 ≢ f
 
 -- a place behind the watches, with a literal that isn't false
 pub record IsOther (a : Entries) (es : List Assigned) (r k : ℕ) : Type 0 where

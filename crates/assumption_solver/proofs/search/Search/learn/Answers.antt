@@ -1,18 +1,22 @@
 use Rattle.std.proofs.Common.{◌≡◌, ◌≤◌, ◌∙◌, true, sym, subst, arith}
+use Rattle.std.specs.Result.{OnOk}
 use Rattle.std.proofs.lemmas.Result.{on_ok_weaker}
 use Rattle.cnf_core.specs.Literals.{Literals}
 use Rattle.lrat_lines.specs.Tight.{IsTight}
 use Rattle.lrat_log.specs.Entries.{known_after}
 use Rattle.lrat_log.specs.Fresh.{IsFresh}
 use Rattle.lrat_log.specs.Kept.{IsShown}
+use Rattle.assumption_solver.specs.declared.search.Search.{Search}
+use Rattle.assumption_solver.specs.Logs.{IsContinued}
 use Rattle.assumption_solver.specs.Steps.Asserting.{IsUnitNow}
 use Rattle.assumption_solver.specs.Steps.Standing.{Stands}
+use Rattle.assumption_solver.specs.Steps.States.{StaysGuided}
 use Rattle.assumption_solver.proofs.Conflicts.{is_conflict}
 use Rattle.assumption_solver.proofs.Asserted.{back_below, unit_now}
 use Rattle.assumption_solver.proofs.Freshness.{is_fresh}
 use Rattle.assumption_solver.proofs.Learnt.{learnt_shown_here, learnt_tight}
 use Rattle.assumption_solver.proofs.Tables.{continued_trans}
-use Rattle.assumption_solver.proofs.Learning.{bears_learnt, is_counting, guided_learnt, continued_learnt}
+use Rattle.assumption_solver.proofs.Learning.{IsCounting, bears_learnt, is_counting, guided_learnt, continued_learnt}
 use Rattle.assumption_solver.proofs.search.Search.learn.Goals as goal
 
 pub analyse-requires-clause-conflict : goal.analyse-requires-clause-conflict
@@ -91,7 +95,8 @@ count_clause-requires-clause-learnt g c =
     let e = c.go_back.ensures.same in
     let f = c.in_ok-assert_first.ensures in
     let lits : c.deref_mut.result.now ≡ c.deref.result.now = cc in
-    let counting = is_counting s c.go_back.new.self c.assert_first.new.self c.learnt.new.self c.deref.result.now l.back c.requires.solves
+    let counting = subst IsCounting (sym c.recycle.ensures)
+    (is_counting s c.go_back.new.self c.assert_first.new.self c.learnt.new.self c.deref.result.now l.back c.requires.solves
     c.in_ok-id.ensures.ok
     (record {
       trail = c.go_back.ensures.back;
@@ -103,7 +108,7 @@ count_clause-requires-clause-learnt g c =
       epochs = e.epochs;
     })
     f.learnt (subst (λ (d : Literals). Stands c.assert_first.new.self.arena c.assert_first.new.self.trail.entries true d) lits f.stands)
-    f.noted f.epochs c.requires.room in counting.learnt
+    f.noted f.epochs c.requires.room) in counting.learnt
 
 pub count_clause-requires-clause-counted : goal.count_clause-requires-clause-counted
 count_clause-requires-clause-counted g c =
@@ -112,7 +117,8 @@ count_clause-requires-clause-counted g c =
     let e = c.go_back.ensures.same in
     let f = c.in_ok-assert_first.ensures in
     let lits : c.deref_mut.result.now ≡ c.deref.result.now = cc in
-    let counting = is_counting s c.go_back.new.self c.assert_first.new.self c.learnt.new.self c.deref.result.now l.back c.requires.solves
+    let counting = subst IsCounting (sym c.recycle.ensures)
+    (is_counting s c.go_back.new.self c.assert_first.new.self c.learnt.new.self c.deref.result.now l.back c.requires.solves
     c.in_ok-id.ensures.ok
     (record {
       trail = c.go_back.ensures.back;
@@ -124,7 +130,7 @@ count_clause-requires-clause-counted g c =
       epochs = e.epochs;
     })
     f.learnt (subst (λ (d : Literals). Stands c.assert_first.new.self.arena c.assert_first.new.self.trail.entries true d) lits f.stands)
-    f.noted f.epochs c.requires.room in counting.counted
+    f.noted f.epochs c.requires.room) in counting.counted
 
 pub count_clause-requires-clause-room : goal.count_clause-requires-clause-room
 count_clause-requires-clause-room g c =
@@ -133,7 +139,8 @@ count_clause-requires-clause-room g c =
     let e = c.go_back.ensures.same in
     let f = c.in_ok-assert_first.ensures in
     let lits : c.deref_mut.result.now ≡ c.deref.result.now = cc in
-    let counting = is_counting s c.go_back.new.self c.assert_first.new.self c.learnt.new.self c.deref.result.now l.back c.requires.solves
+    let counting = subst IsCounting (sym c.recycle.ensures)
+    (is_counting s c.go_back.new.self c.assert_first.new.self c.learnt.new.self c.deref.result.now l.back c.requires.solves
     c.in_ok-id.ensures.ok
     (record {
       trail = c.go_back.ensures.back;
@@ -145,7 +152,7 @@ count_clause-requires-clause-room g c =
       epochs = e.epochs;
     })
     f.learnt (subst (λ (d : Literals). Stands c.assert_first.new.self.arena c.assert_first.new.self.trail.entries true d) lits f.stands)
-    f.noted f.epochs c.requires.room in counting.room
+    f.noted f.epochs c.requires.room) in counting.room
 
 pub returns-in_err-assert_first-clause-continued : goal.returns-in_err-assert_first-clause-continued
 returns-in_err-assert_first-clause-continued g c =
@@ -156,7 +163,8 @@ pub returns-clause-continued : goal.returns-clause-continued
 returns-clause-continued g c =
     continued_trans c.args.self.now.journal c.assert_first.new.self.journal c.count_clause.new.self.journal
     (continued_learnt c.args.self.now c.go_back.new.self c.assert_first.new.self c.learnt.new.self c.deref.result.now c.in_ok-id.ensures.ok
-    c.go_back.ensures.same.journal c.assert_first.ensures.noted) c.count_clause.ensures.noted.continued
+    c.go_back.ensures.same.journal c.assert_first.ensures.noted)
+    (subst (λ (v : Search). IsContinued v.journal c.count_clause.new.self.journal) c.recycle.ensures c.count_clause.ensures.noted.continued)
 
 pub returns-clause-guided : goal.returns-clause-guided
 returns-clause-guided g c =
@@ -166,4 +174,6 @@ returns-clause-guided g c =
     let le : l.back ≤ s.trail.level = omega (arith, below) in
     on_ok_weaker c.count_clause.result (λ stays.
     guided_learnt s c.go_back.new.self c.assert_first.new.self c.count_clause.new.self l.back c.go_back.ensures.back le
-    c.in_ok-assert_first.ensures.guided stays) c.count_clause.ensures.guided
+    c.in_ok-assert_first.ensures.guided stays)
+    (subst (λ (v : Search). OnOk c.count_clause.result (StaysGuided v c.count_clause.new.self)) c.recycle.ensures
+    c.count_clause.ensures.guided)

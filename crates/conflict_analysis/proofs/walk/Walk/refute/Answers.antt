@@ -26,4 +26,4 @@ returns-clause-proved c =
     (refuted c.args.arena.now c.args.trail.now c.trace.new.self known c.requires.reasons
     (traced 0 [] (traced_conflict c.args.arena.now c.args.trail.now c.args.conflict c.start.new.self c.mark_clause.new.self
     c.len-end.ensures.trail c.start.ensures.started c.requires.conflict c.in_ok-mark_clause.ensures.marked)) map))
-    c.hints_in_order.ensures
+    c.hints_in_order.ensures.hints

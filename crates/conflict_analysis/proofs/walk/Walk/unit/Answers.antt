@@ -14,4 +14,4 @@ returns-clause-proved c =
     IfOk-weaker c.hints_in_order.result _ _ (λ hints is.
     subst (λ (hs : List ℕ). ShowsLiteral c.args.arena.now c.args.trail.now.entries c.args.lit hs) (sym is)
     c.in_ok-find_unit.ensures.proved)
-    c.hints_in_order.ensures
+    c.hints_in_order.ensures.hints

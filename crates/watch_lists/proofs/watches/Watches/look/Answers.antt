@@ -4,11 +4,9 @@ use Rattle.trail_core.specs.Trails.{HasLiteral}
 use Rattle.cnf_core.specs.Literals.{IsWithin}
 use Rattle.watch_lists.specs.Watchers.{Watcher}
 use Rattle.watch_lists.specs.Steps.Visiting.{IsAdvanced, FateSays}
-use Rattle.watch_lists.proofs.Visited.{IsLast, last_paired, blocker_within, forced, IsTurned, visiting_blocked, turned_swapped, turned_same}
-use Rattle.trail_core.proofs.Literals.{same_if, same_unless, other_if, other_unless}
-use Rattle.watch_lists.proofs.Visited.{outdated, advanced_trans}
+use Rattle.watch_lists.proofs.Visited.{last_paired, blocker_within, forced, visiting_blocked, outdated, IsLast}
+use Rattle.trail_core.proofs.Literals.{same_unless, other_unless}
 use Rattle.watch_lists.proofs.watches.Watches.look.Goals as goal
-use Rattle.watch_lists.proofs.watches.Watches.look.Goals.{then-eq, else-eq+else-ne}
 
 pub returns-then-is_true-clause-fate : goal.returns-then-is_true-clause-fate
 returns-then-is_true-clause-fate c = (
@@ -22,51 +20,13 @@ pub returns-then-ne-clause-fate : goal.returns-then-ne-clause-fate
 returns-then-ne-clause-fate c =
     let is = sym (c.clause-r.ensures.value ∙ ap (λ (x : Watcher). x.clause) c.get-watch.ensures) in
     outdated c.args.arena.now c.args.self.now c.take_out.new.self c.args.trail.now c.args.lit c.args.at c.clause-r.result
-    c.requires.visiting c.requires.within c.requires.place is
-    (λ e. other_if c.lit.result c.args.lit c.eq.result c.eq.ensures c.if-eq.false (c.lit.ensures ∙ e))
-    (λ e. other_unless c.lit-else-eq.result c.args.lit c.ne.result c.ne.ensures c.if-ne.true (c.lit-else-eq.ensures ∙ e))
+    c.watch_place-place.result c.requires.visiting c.requires.within c.requires.place is c.watch_place-place.ensures
+    (λ e. other_unless c.lit.result c.args.lit c.ne.result c.ne.ensures c.if-ne.true (c.lit.ensures ∙ e))
     c.take_out.ensures
 
--- before the clause is settled
-turned : (c : goal.After-settle-arg-3-1)
-    → IsTurned c.args.arena.now c.if-eq.arena c.args.self.now c.args.trail.now c.args.lit c.args.at c.clause-r.result
-turned c =
-    let r = c.clause-r.result in
-    let is = sym (c.clause-r.ensures.value ∙ ap (λ (x : Watcher). x.clause) c.get-watch.ensures) in
-    elim c.if-eq.branch [
-      | then-eq w ↦ turned_swapped c.args.arena.now c.if-eq.arena c.args.self.now c.args.trail.now c.args.lit c.args.at r
-          c.requires.visiting c.requires.place is
-          (sym c.lit.ensures ∙ same_if c.lit.result c.args.lit c.eq.result c.eq.ensures w.if-eq.true)
-          (w.arena-is ∙ w.swap.ensures)
-      | else-eq+else-ne w ↦ turned_same c.args.arena.now c.if-eq.arena c.args.self.now c.args.trail.now c.args.lit c.args.at r
-          c.requires.visiting
-          (sym w.lit-else-eq.ensures ∙ same_unless w.lit-else-eq.result c.args.lit w.ne.result w.ne.ensures w.if-ne.false)
-          w.arena-is
-    ]
-
-pub settle-requires-clause-visiting : goal.settle-requires-clause-visiting
-settle-requires-clause-visiting c = (turned c).visiting
-
-pub settle-requires-clause-second : goal.settle-requires-clause-second
-settle-requires-clause-second c = (turned c).second
-
-pub returns-clause-advanced : goal.returns-clause-advanced
-returns-clause-advanced c =
-    let r = c.clause-r.result in
-    let is = sym (c.clause-r.ensures.value ∙ ap (λ (x : Watcher). x.clause) c.get-watch.ensures) in
-    let turned : IsTurned c.args.arena.now c.if-eq.arena c.args.self.now c.args.trail.now c.args.lit c.args.at r =
-    elim c.if-eq.branch [
-      | then-eq w ↦ turned_swapped c.args.arena.now c.if-eq.arena c.args.self.now c.args.trail.now c.args.lit c.args.at r
-          c.requires.visiting c.requires.place is
-          (sym c.lit.ensures ∙ same_if c.lit.result c.args.lit c.eq.result c.eq.ensures w.if-eq.true)
-          (w.arena-is ∙ w.swap.ensures)
-      | else-eq+else-ne w ↦ turned_same c.args.arena.now c.if-eq.arena c.args.self.now c.args.trail.now c.args.lit c.args.at r
-          c.requires.visiting
-          (sym w.lit-else-eq.ensures ∙ same_unless w.lit-else-eq.result c.args.lit w.ne.result w.ne.ensures w.if-ne.false)
-          w.arena-is
-    ] in
-    advanced_trans c.args.arena.now c.if-eq.arena c.settle.new.arena c.args.trail.now c.args.trail.now c.settle.new.trail
-    turned.advanced c.settle.ensures.advanced
+pub settle-requires-clause-held : goal.settle-requires-clause-held
+settle-requires-clause-held c =
+    sym c.lit.ensures ∙ same_unless c.lit.result c.args.lit c.ne.result c.ne.ensures c.if-ne.false
 
 told : (c : goal.After-force)
     → IsAdvanced c.args.arena.now c.args.trail.now c.args.arena.now c.force.new.trail
