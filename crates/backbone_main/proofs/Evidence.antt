@@ -77,7 +77,7 @@ none_of : (c : Literals) → IsTrue (is_empty c) → c ≡ []
 none_of [] is = refl
 none_of (l ∷ ls) is = absurd (true≢false (sym is))
 
-reached_unit : (F : Cnf) (lines : List Line) (l : Literal) → IsTidy F lines → IsTrue (have_unit lines l) → IsReached F lines (l ∷ [])
+pub reached_unit : (F : Cnf) (lines : List Line) (l : Literal) → IsTidy F lines → IsTrue (have_unit lines l) → IsReached F lines (l ∷ [])
 reached_unit F lines l tidy have =
     let (line, there, passes) = member_of_list_any (λ (line : Line). is_just l (clause_of line)) lines have in
     record {
@@ -86,7 +86,7 @@ reached_unit F lines l tidy have =
       same = just_one l (clause_of line) passes;
     }
 
-reached_empty : (F : Cnf) (lines : List Line) → IsTidy F lines → IsTrue (have_empty lines) → IsReached F lines []
+pub reached_empty : (F : Cnf) (lines : List Line) → IsTidy F lines → IsTrue (have_empty lines) → IsReached F lines []
 reached_empty F lines tidy have =
     let (line, there, passes) = member_of_list_any (λ (line : Line). is_empty (clause_of line)) lines have in
     record {

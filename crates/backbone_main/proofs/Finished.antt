@@ -57,6 +57,7 @@ all_onward w n files ending a b c is only = record {
     texts = is.wrote.texts;
     say = is.wrote.say;
     gave = λ p other. only.put p other ∙ is.wrote.gave p other;
+    certified = is.wrote.certified;
   };
 }
 
@@ -134,6 +135,7 @@ all_after w n files F ending a b c reads put left all = record {
     texts = all.texts;
     say = all.say;
     gave = λ p other. gave_after p _ a b c put (all.gave p other);
+    certified = all.certified;
   };
 }
 

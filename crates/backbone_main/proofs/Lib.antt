@@ -5,6 +5,7 @@ pub mod Refused
 pub mod Partial
 pub mod Evidence
 pub mod Replies
+pub mod Certified
 pub mod Onward
 pub mod Finished
 pub mod Served

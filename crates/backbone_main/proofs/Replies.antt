@@ -30,17 +30,17 @@ use Rattle.backbone_main.specs.declared.ending.Ending.TheVariants.{Failed}
 use Rattle.backbone_main.specs.Causes.{Acts}
 use Rattle.backbone_main.specs.Endings.{IsItsOwn}
 use Rattle.backbone_main.specs.Texts.{Texts, AreSpent, HasModel, TellsBackbone, TellsNoModel, TellsPart, TextsSay, IsProofOf, IsWitnessOf, IsRefutation}
-use Rattle.backbone_main.specs.Extracting.{GaveAll, IsCutAt, StopsWhere}
+use Rattle.backbone_main.specs.Extracting.{GaveAll, IsCertified, IsCutAt, StopsWhere}
 use Rattle.backbone_main.specs.Steps.Open.{open_literals}
 use Rattle.backbone_main.specs.Steps.Finish.{WritesOwn, Touches}
-use Rattle.backbone_main.specs.Steps.Replies.{AllowsFiles, EndsWriting, Finishes, IsKeptDrops, IsWantedReply, IsWritable, proof_text_of, drops_text_of}
+use Rattle.backbone_main.specs.Steps.Replies.{AllowsFiles, EndsWriting, Finishes, HasText, IsKeptDrops, IsWantedReply, IsWritable, proof_text_of, drops_text_of, texts_of}
 use Rattle.backbone_main.proofs.Own.{touches_more, touches_by_write, touches_by_choice}
 use Rattle.backbone_main.proofs.Partial.{complete_witness, first_is_model, known_part, partial_witness}
 use Rattle.backbone_main.proofs.Evidence.{drops_where, drops_writable, printable_of_tidy, proof_of_report, proof_where, proof_writable, refutation}
 
 -- ---- what each outcome's reply tells
 
-has_model_of : (F : Cnf) (r : Report) → IsReport F r → HasModel F
+pub has_model_of : (F : Cnf) (r : Report) → IsReport F r → HasModel F
 has_model_of F r report empty = no_model F (model_at r.models 0) empty (first_is_model F r report)
 
 pub tells_backbone : (files : Files) (F : Cnf) (r : Report) (proof : Option (List Line)) (drops : Option Drops)
@@ -230,13 +230,16 @@ own_answer may reply ending a b c d wanted first no_proof second no_drops third 
 
 -- ---- from a reply that was written to what was done
 
-pub finishes_writing : (w b : ℕ) (files : Files) (F : Cnf) (texts : Texts) (written ending : Ending) (old new : Told)
-    → TextsSay w b files written F texts → EndsWriting texts written ending old new → Finishes w b files F ending old new
-finishes_writing w b files F texts written ending old new say writes = elim writes [
+pub finishes_writing : (w b : ℕ) (files : Files) (F : Cnf) (reply : Reply) (ending : Ending) (old new : Told)
+    → TextsSay w b files reply.ending F (texts_of reply)
+    → (HasText reply.evidence.proof → IsCertified files reply.ending F (texts_of reply))
+    → EndsWriting reply ending old new → Finishes w b files F ending old new
+finishes_writing w b files F reply ending old new say certified writes = elim writes [
   | inl whole ↦ inr (inl (record {
-    texts = texts;
-    say = subst (λ (e : Ending). TextsSay w b files e F texts) (sym whole.0) say;
-    gave = whole.1;
+    texts = texts_of reply;
+    say = subst (λ (e : Ending). TextsSay w b files e F (texts_of reply)) (sym whole.own) say;
+    gave = whole.gave;
+    certified = subst (λ (e : Ending). IsCertified files e F (texts_of reply)) (sym whole.own) (certified whole.evidence);
   }))
-  | inr stop ↦ inr (inr (record { texts = texts; intended = written; say = say; stop = stop }))
+  | inr stop ↦ inr (inr (record { texts = texts_of reply; intended = reply.ending; say = say; stop = stop }))
 ]

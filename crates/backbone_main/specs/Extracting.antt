@@ -1,5 +1,5 @@
 -- What `extract` does, by how it ends, and which statuses a cause leaves.
-use Rattle.std.specs.Prelude.{◌≡◌, ◌≢◌, ◌≤◌, ◌⊎◌, ℕ, List, [], ◌∷◌, false, true, is_some, Ok, Err}
+use Rattle.std.specs.Prelude.{◌≡◌, ◌≢◌, ◌≤◌, ◌⊎◌, ℕ, IsTrue, List, [], ◌∷◌, false, true, is_some, Ok, Err}
 use Rattle.bone_desk.specs.declared.desk.Feed.TheVariants as feed
 use Rattle.bone_desk.specs.declared.desk.Port.{Port}
 use Rattle.bone_desk.specs.declared.desk.Port.TheVariants as port
@@ -12,6 +12,8 @@ use Rattle.dimacs_reader.specs.declared.fault.Fault.{Fault}
 use Rattle.dimacs_reader.specs.Feeds.{IsTooLong}
 use Rattle.lrat_log.specs.Laws.{enough}
 use Rattle.bone_words.specs.Settings.{Extraction}
+use Rattle.bone_check.specs.declared.verdict.Verdict.TheVariants.{Verified}
+use Rattle.bone_check.specs.Verdicts.{verdict_of}
 use Rattle.backbone_main.specs.declared.task.Files.{Files}
 use Rattle.backbone_main.specs.declared.ending.Ending.{Ending}
 use Rattle.backbone_main.specs.declared.ending.Ending.TheVariants.{Complete, Unsatisfiable, Unfinished, Unknown, OutOfMemory, BadText, TooLong, Failed}
@@ -59,11 +61,22 @@ StopsWhere texts OutOfMemory old new = IsCutAt port.Proof texts old new
 StopsWhere texts (Failed (Write p)) old new = IsCutAt p texts old new × Rose (Write p) old new
 StopsWhere texts ending old new = ⊥
 
+-- a check of the texts, as they are read back, verifies them
+abbrev pub IsVerified : Cnf → Texts → Type 0
+IsVerified F texts = verdict_of F texts.answer texts.proof texts.witness ≡ Verified
+
+-- which texts a check verifies, by the ending: a backbone with both files, and that there is no model with the proof
+abbrev pub IsCertified : Files → Ending → Cnf → Texts → Type 0
+IsCertified files Complete F texts = IsTrue files.proof → IsTrue files.witness → IsVerified F texts
+IsCertified files Unsatisfiable F texts = IsTrue files.proof → IsVerified F texts
+IsCertified files ending F texts = Unit {0}
+
 -- all was written that the ending says
 pub record WritesAll (workers budget : ℕ) (files : Files) (ending : Ending) (F : Cnf) (old new : Told) : Type 0 where
   pub texts : Texts
   pub say : TextsSay workers budget files ending F texts
   pub gave : GaveAll texts old new
+  pub certified : IsCertified files ending F texts
 
 -- the writing stopped by the ending, and was to be what some ending says
 pub record Stops (workers budget : ℕ) (files : Files) (ending : Ending) (F : Cnf) (old new : Told) : Type 0 where

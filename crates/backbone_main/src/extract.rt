@@ -5,7 +5,7 @@ ghost use Rattle.backbone_main.specs.Steps.Finish.{asked, HasLimits, Runs};
 
 use crate::ending::Ending;
 use crate::reply::deliver;
-use crate::task::{Extraction, read_task};
+use crate::task::{Extraction, Task, read_task};
 use bone_desk::Desk;
 use chooser_core::Chooser;
 use run_core::{run_many, run_one};
@@ -27,9 +27,15 @@ pub fn extract<R: Threads + Sync, D: Desk, G: Gate>(
     ensures { Runs extraction.now.settings.workers (Some (to_extract (asked extraction.now))) result (D.told desk.old) (D.told desk.new) }
 {
     match read_task(alloc, extraction, desk) {
-        Ok(task) => {
-            let outcome = run_many(rt, alloc, &task.formula, task.settings, choosers, gate);
-            deliver(alloc, &task.formula, task.files, outcome, desk)
+        Ok(
+            Task {
+                formula,
+                settings,
+                files,
+            },
+        ) => {
+            let outcome = run_many(rt, alloc, &formula, settings, choosers, gate);
+            deliver(alloc, &formula, files, outcome, desk)
         }
         Err(ending) => ending,
     }
@@ -47,9 +53,15 @@ pub fn extract_alone<D: Desk>(
     ensures { Runs 1 (Some (to_extract (asked extraction.now))) result (D.told desk.old) (D.told desk.new) }
 {
     match read_task(alloc, extraction, desk) {
-        Ok(task) => {
-            let outcome = run_one(alloc, &task.formula, task.settings, choosers);
-            deliver(alloc, &task.formula, task.files, outcome, desk)
+        Ok(
+            Task {
+                formula,
+                settings,
+                files,
+            },
+        ) => {
+            let outcome = run_one(alloc, &formula, settings, choosers);
+            deliver(alloc, &formula, files, outcome, desk)
         }
         Err(ending) => ending,
     }

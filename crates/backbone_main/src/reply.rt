@@ -1,5 +1,5 @@
 //! What is written of the outcome of a run: first the proof, then the witness, then the answer.
-ghost use Rattle.std.specs.Prelude.{◌≡◌, true, ℕ, ◌≤◌, IfOk, IfErr, OnOk, OnErr, IfSome, IsSome, IsNone, is_some, All, Option};
+ghost use Rattle.std.specs.Prelude.{◌≡◌, true, ℕ, ◌≤◌, ◌^◌, IfOk, IfErr, OnOk, OnErr, IfSome, IsSome, IsNone, is_some, All, Option};
 ghost use Rattle.std.specs.Bool.{then_some};
 ghost use Rattle.bone_desk.specs.Told.{Told, Rose, WritesOnly, Gave};
 ghost use Rattle.bone_desk.specs.Gives.{GaveFront};
@@ -7,13 +7,14 @@ ghost use Rattle.cnf_core.specs.Formulas.{Cnf};
 ghost use Rattle.lrat_lines.specs.Printed.{IsPrintable};
 ghost use Rattle.lrat_lines.specs.Writings.{HasCause};
 ghost use Rattle.lrat_log.specs.Entries.{Recorded};
+ghost use Rattle.model_store.specs.Stores.{HoldsModels};
 ghost use Rattle.answer_text.specs.AnswerText.{IsInOrder, IsPartialInOrder, partial_text, text_of};
 ghost use Rattle.run_core.specs.Outcomes.{OutcomeSays, IsComplete, IsRefuted, IsSpent, IsUnfinished};
 ghost use Rattle.backbone_main.specs.Causes.{Acts};
 ghost use Rattle.backbone_main.specs.Endings.{IsItsOwn};
 ghost use Rattle.backbone_main.specs.Texts.{Texts, AreSpent, TellsBackbone, TellsNoModel, TellsNothing, TellsPart, TextsSay};
-ghost use Rattle.backbone_main.specs.Extracting.{IsCutAt, StopsWhere};
-ghost use Rattle.backbone_main.specs.Steps.Replies.{IsWritable, HoldsDrops, IsKeptDrops, proof_text_of, drops_text_of, texts_of};
+ghost use Rattle.backbone_main.specs.Extracting.{IsCertified, IsCutAt, StopsWhere};
+ghost use Rattle.backbone_main.specs.Steps.Replies.{HasText, IsWritable, HoldsDrops, IsKeptDrops, proof_text_of, drops_text_of, texts_of};
 ghost use Rattle.backbone_main.specs.Steps.Replies.{AllowsFiles, EndsWriting, Finishes, HasEnded, IsWantedReply};
 ghost use Rattle.backbone_main.specs.Steps.Finish.{WritesOwn};
 
@@ -67,6 +68,7 @@ pub fn deliver<D: Desk>(
     desk: &mut D,
 ) -> Ending
     requires ended { HasEnded formula.now outcome }
+    requires vars { formula.now.vars ≤ 2 ^ 20 }
     ensures finishes { (workers budget : ℕ) → 1 ≤ workers → OutcomeSays formula.now workers budget outcome.entry
         → Finishes workers budget files formula.now result (D.told desk.old) (D.told desk.new) }
     ensures own { (may : Acts) → AllowsFiles may files → WritesOwn may result (D.told desk.old) (D.told desk.new) }
@@ -81,7 +83,7 @@ pub fn deliver<D: Desk>(
 fn write<D: Desk>(alloc: Global, formula: &Formula, reply: &Reply, desk: &mut D) -> Ending
     requires order { IsInOrder reply.now.answer }
     requires writable { IsWritable formula.now reply.now.evidence }
-    ensures writes { EndsWriting (texts_of reply.now) reply.now.ending result (D.told desk.old) (D.told desk.new) }
+    ensures writes { EndsWriting reply.now result (D.told desk.old) (D.told desk.new) }
     ensures own { (may : Acts) → IsWantedReply may reply.now → WritesOwn may result (D.told desk.old) (D.told desk.new) }
 {
     if let Err(end) = put_proof(alloc, &reply.evidence.proof, desk) {
@@ -117,6 +119,7 @@ fn put_proof<D: Desk>(alloc: Global, proof: &Option<Proof>, desk: &mut D) -> Res
     ensures none { IsNone proof.now → D.told desk.new ≡ D.told desk.old }
     ensures some { OnErr result (IsSome proof.now) }
     ensures cause { IfErr result (λ end. HasCause end (D.told desk.old) (D.told desk.new)) }
+    ensures in_memory { OnOk result (HasText proof.now) }
 {
     match proof {
         Some(proof) => write_proof(alloc, desk, proof),
@@ -156,6 +159,9 @@ fn reply_to<'f>(
     ensures writable { IfOk result (λ reply. IsWritable formula.now reply.evidence) }
     ensures says { IfOk result (λ reply. (workers budget : ℕ) → 1 ≤ workers → OutcomeSays formula.now workers budget outcome.entry
         → TextsSay workers budget files reply.ending formula.now (texts_of reply)) }
+    ensures certified { IfOk result (λ reply. (workers budget : ℕ) → OutcomeSays formula.now workers budget outcome.entry
+        → formula.now.vars ≤ 2 ^ 20 → HasText reply.evidence.proof
+        → IsCertified files reply.ending formula.now (texts_of reply)) }
     ensures wanted { IfOk result (λ reply. (may : Acts) → AllowsFiles may files → IsWantedReply may reply) }
 {
     match outcome {
@@ -175,6 +181,8 @@ fn whole(files: Files, report: Report) -> Reply
     ensures order { (F : Cnf) → IsComplete F report.entry → IsInOrder result.answer }
     ensures writable { (F : Cnf) → IsComplete F report.entry → IsWritable F result.evidence }
     ensures says { (F : Cnf) → IsComplete F report.entry → TellsBackbone files F (texts_of result) }
+    ensures certified { (F : Cnf) → IsComplete F report.entry → F.vars ≤ 2 ^ 20 → HasText result.evidence.proof
+        → IsCertified files Ending.Complete F (texts_of result) }
     ensures ending { result.ending ≡ Ending.Complete }
     ensures proof { is_some result.evidence.proof ≡ files.proof }
     ensures witness { is_some result.evidence.witness ≡ files.witness }
@@ -197,6 +205,8 @@ fn no_model<'f>(files: Files, proof: Proof) -> Reply<'f>
     ensures order { IsInOrder result.answer }
     ensures writable { (F : Cnf) → IsRefuted F proof → IsWritable F result.evidence }
     ensures says { (F : Cnf) → IsRefuted F proof → TellsNoModel files F (texts_of result) }
+    ensures certified { (F : Cnf) → IsRefuted F proof → F.vars ≤ 2 ^ 20 → HasText result.evidence.proof
+        → IsCertified files Ending.Unsatisfiable F (texts_of result) }
     ensures ending { result.ending ≡ Ending.Unsatisfiable }
     ensures proof { is_some result.evidence.proof ≡ files.proof }
     ensures witness { IsNone result.evidence.witness }
@@ -278,6 +288,7 @@ fn evidence_of<'f>(
     ensures proof { result.proof ≡ then_some files.proof proof }
     ensures witness { is_some result.witness ≡ files.witness }
     ensures drops { IfSome result.witness (IsKeptDrops models.entry drops.items) }
+    ensures holds { HoldsModels models.entry }
 {
     Evidence {
         proof: files.proof.then_some(proof),

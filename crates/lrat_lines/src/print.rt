@@ -1,16 +1,20 @@
 ghost use Rattle.std.specs.Prelude.{◌≡◌, ◌++◌, length, take, OnOk, OnErr};
+ghost use Rattle.std.specs.Prelude.{◌^◌, All};
+ghost use Rattle.cnf_core.specs.Literals.{AreWithin, IsWithin};
 ghost use Rattle.lrat_lines.specs.Printed.{number_bytes, literal_bytes, numbers_bytes, literals_bytes, line_bytes, line_text, IsPrintable};
+ghost use Rattle.lrat_lines.specs.Printed.{IsInMemory, IsWide};
 
 use crate::Line;
 use cnf_core::{Lit, NoMemory};
 use itoa::Buffer;
 
 /// Appends the printed spelling of a line, with its line feed. All its ids are at least 1. Without
-/// memory for the whole line the text stays as it was.
+/// memory for the whole line the text stays as it was. A line that was printed has numbers that lines in memory have.
 pub fn print_line(line: &Line, out: &mut Vec<u8>) -> Result<(), NoMemory>
     requires { IsPrintable line.now }
     ensures ok { OnOk result (out.new.items ≡ out.old.items ++ line_text line.now) }
     ensures err { OnErr result (out.new.items ≡ out.old.items) }
+    ensures in_memory { OnOk result (IsInMemory line.now) }
 {
     let before = out.len();
     let pushed = push_line(line, out);
@@ -24,6 +28,7 @@ pub fn print_line(line: &Line, out: &mut Vec<u8>) -> Result<(), NoMemory>
 fn push_line(line: &Line, out: &mut Vec<u8>) -> Result<(), NoMemory>
     ensures ok { OnOk result (out.new.items ≡ out.old.items ++ line_text line.now) }
     ensures front { OnErr result (take (length out.old.items) out.new.items ≡ out.old.items) }
+    ensures in_memory { OnOk result (IsInMemory line.now) }
 {
     push_line_bytes(line, out)?;
     out.push(b'\n')?;
@@ -34,6 +39,7 @@ fn push_line(line: &Line, out: &mut Vec<u8>) -> Result<(), NoMemory>
 fn push_line_bytes(line: &Line, out: &mut Vec<u8>) -> Result<(), NoMemory>
     ensures ok { OnOk result (out.new.items ≡ out.old.items ++ line_bytes line.now) }
     ensures front { OnErr result (take (length out.old.items) out.new.items ≡ out.old.items) }
+    ensures in_memory { OnOk result (IsInMemory line.now) }
 {
     match line {
         Line::Add { id, lits, hints } => {
@@ -72,6 +78,7 @@ fn push_number(number: u64, out: &mut Vec<u8>) -> Result<(), NoMemory>
 fn push_literal(lit: Lit, out: &mut Vec<u8>) -> Result<(), NoMemory>
     ensures ok { OnOk result (out.new.items ≡ out.old.items ++ literal_bytes lit) }
     ensures front { OnErr result (take (length out.old.items) out.new.items ≡ out.old.items) }
+    ensures within { IsWithin (2 ^ 20) lit }
 {
     let mut digits = Buffer::new();
     push_bytes(digits.format(lit.number()).as_bytes(), out)?;
@@ -83,6 +90,7 @@ fn push_literal(lit: Lit, out: &mut Vec<u8>) -> Result<(), NoMemory>
 fn push_numbers(numbers: &[u64], out: &mut Vec<u8>) -> Result<(), NoMemory>
     ensures ok { OnOk result (out.new.items ≡ out.old.items ++ numbers_bytes numbers.now) }
     ensures front { OnErr result (take (length out.old.items) out.new.items ≡ out.old.items) }
+    ensures wide { All IsWide numbers.now }
 {
     for number in numbers {
         push_number(*number, out)?;
@@ -95,6 +103,7 @@ fn push_numbers(numbers: &[u64], out: &mut Vec<u8>) -> Result<(), NoMemory>
 fn push_literals(lits: &[Lit], out: &mut Vec<u8>) -> Result<(), NoMemory>
     ensures ok { OnOk result (out.new.items ≡ out.old.items ++ literals_bytes lits.now) }
     ensures front { OnErr result (take (length out.old.items) out.new.items ≡ out.old.items) }
+    ensures within { OnOk result (AreWithin (2 ^ 20) lits.now) }
 {
     for lit in lits {
         push_literal(*lit, out)?;

@@ -1,7 +1,7 @@
 ghost use Rattle.std.specs.Prelude.{◌≡◌, ◌++◌, All, OnOk, OnErr, IfErr};
 ghost use Rattle.bone_desk.specs.Told.{WritesOnly, Gave};
 ghost use Rattle.bone_desk.specs.Gives.{GaveFront, Pushed};
-ghost use Rattle.lrat_lines.specs.Printed.{proof_text, IsPrintable};
+ghost use Rattle.lrat_lines.specs.Printed.{proof_text, IsPrintable, IsInMemory};
 ghost use Rattle.lrat_lines.specs.Writings.{HasCause};
 ghost use Rattle.lrat_lines.specs.declared.write.ProofEnd.TheVariants.{Fault, Memory};
 
@@ -57,6 +57,7 @@ pub fn write_proof<D: Desk>(alloc: Global, desk: &mut D, proof: &Proof) -> Resul
     ensures front { OnErr result (GaveFront Port.Proof (proof_text proof.now) (D.told desk.old) (D.told desk.new)) }
     ensures only { WritesOnly Port.Proof (D.told desk.old) (D.told desk.new) }
     ensures cause { IfErr result (λ end. HasCause end (D.told desk.old) (D.told desk.new)) }
+    ensures in_memory { OnOk result (All IsInMemory proof.now) }
 {
     let mut buffer = PortBuffer::new(Port::Proof);
     push_lines(alloc, desk, &mut buffer, &proof.lines)?;
@@ -78,6 +79,7 @@ fn push_lines<D: Desk>(
         (D.told desk.old) (D.told desk.new)) }
     ensures only { WritesOnly Port.Proof (D.told desk.old) (D.told desk.new) }
     ensures cause { IfErr result (λ end. HasCause end (D.told desk.old) (D.told desk.new)) }
+    ensures in_memory { OnOk result (All IsInMemory lines.now) }
 {
     let mut text = Vec::new(alloc);
     for line in lines {

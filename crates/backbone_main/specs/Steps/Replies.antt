@@ -5,7 +5,7 @@ use Rattle.bone_desk.specs.declared.desk.Act.TheVariants.{Write}
 use Rattle.bone_desk.specs.Told.{Told}
 use Rattle.cnf_core.specs.Formulas.{Cnf}
 use Rattle.lrat_lines.specs.declared.line.Line.{Line}
-use Rattle.lrat_lines.specs.Printed.{proof_text, IsPrintable}
+use Rattle.lrat_lines.specs.Printed.{proof_text, IsPrintable, IsInMemory}
 use Rattle.answer_text.specs.AnswerText.{text_of}
 use Rattle.model_store.specs.Stores.{Store}
 use Rattle.model_store.specs.Witnesses.{IsInRange}
@@ -76,10 +76,19 @@ pub record IsKeptDrops (s : Store) (ws : List Witness) (d : Drops) : Type 0 wher
   pub store : d.models ≡ s
   pub list : d.drops.items ≡ ws
 
--- the texts were written whole, and the ending is their own; or the writing stopped by another one
-abbrev pub EndsWriting : Texts → Ending → Ending → Told → Told → Type 0
-EndsWriting texts written ending old new =
-    ((ending ≡ written) × GaveAll texts old new) ⊎ StopsWhere texts ending old new
+-- the numbers of the proof, where there is one, are such that its text reads back
+abbrev pub HasText : Option (List Line) → Type 0
+HasText proof = IfSome proof (λ lines. All IsInMemory lines)
+
+-- the reply was written whole, and the ending is its own
+pub record IsWritten (reply : Reply) (ending : Ending) (old new : Told) : Type 0 where
+  pub own : ending ≡ reply.ending
+  pub gave : GaveAll (texts_of reply) old new
+  pub evidence : HasText reply.evidence.proof
+
+-- or the writing stopped by another ending
+abbrev pub EndsWriting : Reply → Ending → Told → Told → Type 0
+EndsWriting reply ending old new = IsWritten reply ending old new ⊎ StopsWhere (texts_of reply) ending old new
 
 -- what was done with the formula, by the ending
 abbrev pub Finishes : ℕ → ℕ → Files → Cnf → Ending → Told → Told → Type 0

@@ -12,7 +12,7 @@ returns-in-Ok g c =
     let told = g.D.Desk.told in
     let extraction = c.args.extraction.now in
     let e = asked extraction in
-    let task = c.in-Ok.task in
+    let task = c.in-Ok.field-0 in
     let is = c.in-Ok.ensures.task in
     let same : task.settings.workers ≡ extraction.settings.workers = ap (λ (s : RunSettings). s.workers) is.settings in
     runs_finished extraction.settings.workers task.settings.budget task.files task.formula e c.deliver.result

@@ -10,7 +10,7 @@ pub returns-in-Ok : goal.returns-in-Ok
 returns-in-Ok g c =
     let told = g.D.Desk.told in
     let e = asked c.args.extraction.now in
-    let task = c.in-Ok.task in
+    let task = c.in-Ok.field-0 in
     let is = c.in-Ok.ensures.task in
     runs_finished 1 task.settings.budget task.files task.formula e c.deliver.result
     (told c.args.desk.now) (told c.read_task.new.desk) (told c.deliver.new.desk)

@@ -67,11 +67,12 @@ returns-clause-writes g c =
     let e = told c.write_answer.new.desk in
     let witness = at_ok c.put_drops.result (sym c.is_err.ensures.value ∙ c.if-is_err.false) c.put_drops.ensures.given in
     let answer = at_ok c.write_answer.result (sym c.is_err-2.ensures.value ∙ c.if-is_err-2.false) c.write_answer.ensures.given in
-    inl (
-      refl,
-      gave_all texts a b d e c.in_default.ensures.given c.put_proof.ensures.only witness c.put_drops.ensures.only
-          answer c.write_answer.ensures.only,
-    )
+    inl (record {
+      own = refl;
+      gave = gave_all texts a b d e c.in_default.ensures.given c.put_proof.ensures.only witness c.put_drops.ensures.only
+          answer c.write_answer.ensures.only;
+      evidence = c.in_default.ensures.in_memory;
+    })
 
 pub returns-clause-own : goal.returns-clause-own
 returns-clause-own g c = λ may is.
