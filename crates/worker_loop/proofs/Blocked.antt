@@ -28,17 +28,6 @@ closed_by_all q phases block closed x some =
     All-contains (λ (l : Literal). IsClosed q l.var) (map (against_phase phases) block) (against_phase phases x) closed
     (member_map phases block x (member_times block x some))
 
--- a model of all assumptions closes the block
-pub closed_by_assumed : (p q t : Post) (block : List ℕ) (m : Assignment) → IsOnward p q → IsBlockOf p.loaded.items p.question.now.formula.vars 256 block
-    → ((l : Literal) → Contains (map (against_phase p.question.now.phases) block) l → is_true m l ≡ true) → IsDropped q m t
-    → (x : ℕ) → 1 ≤ times x block → IsClosed t x
-closed_by_assumed p q t block m onward is assumed dropped x some =
-    let low = (is.within x some).0 in
-    let open_p : open_at p.loaded.items x ≡ 1 = omega (arith, is.once x, some, open-le-one p.loaded.items x) in
-    let open_q : open_at q.loaded.items x ≡ 1 = subst (λ (ws : List ℕ). open_at ws x ≡ 1) (sym onward.copy) open_p in
-    let against : value_of m x ≡ not (value_of p.question.now.phases x) = all_opposite m p.question.now.phases block x assumed (member_times block x some) in
-    dropped x low open_q (subst (λ (a : About). value_of m x ≡ not (value_of a.phases x)) (sym onward.question) against)
-
 -- a core of the assumptions
 pub core_onward : (p q : Post) (block : List ℕ) (id : ℕ) (core : Literals) → IsOnward p q → IsBlockOf p.loaded.items p.question.now.formula.vars 256 block
     → IsCoreFor q.solver.log (map (against_phase p.question.now.phases) block) core id → IsCoreOf q core

@@ -69,6 +69,7 @@ post_moved p t s h m =
       first_group = h.first_group;
       marks = h.marks;
       walker = h.walker;
+      jumper = h.jumper;
       clock = m.clock;
       budget = h.budget;
       few = m.few;

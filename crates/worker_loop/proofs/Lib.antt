@@ -19,6 +19,7 @@ pub mod Absorbed
 pub mod Fixed
 pub mod Onward
 pub mod Walked
+pub mod Landed
 pub mod Refreshed
 pub mod Cores
 pub mod Slices

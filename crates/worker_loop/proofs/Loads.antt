@@ -98,6 +98,7 @@ post_loaded b p t g w h before after once step =
       first_group = n.first_group;
       marks = n.marks;
       walker = n.walker;
+      jumper = n.jumper;
       clock = n.clock;
       budget = n.budget;
       few = n.few;

@@ -87,6 +87,7 @@ post_marked p x k b w h low high group bits word unit =
       first_group = h.first_group;
       marks = h.marks;
       walker = h.walker;
+      jumper = h.jumper;
       clock = h.clock;
       budget = h.budget;
       few = h.few;

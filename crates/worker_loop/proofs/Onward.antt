@@ -171,6 +171,7 @@ post_counted q k is = record {
   first_group = is.first_group;
   marks = is.marks;
   walker = is.walker;
+  jumper = is.jumper;
   clock = is.clock;
   budget = is.budget;
   few = is.few;

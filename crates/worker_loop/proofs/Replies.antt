@@ -42,7 +42,7 @@ one_of_map phases (y ∷ xs) l among =
     let one = one_of_map phases xs l rest in record { var = one.var; among = Contains-tail y xs one.var one.among; is = one.is })
     (Contains-cons_cases (against_phase phases y) (map (against_phase phases) xs) l among)
 
-opposite_by : (p v : Bool) → (if not p then v else not v) ≡ true → v ≡ not p
+pub opposite_by : (p v : Bool) → (if not p then v else not v) ≡ true → v ≡ not p
 opposite_by true true e = absurd (true≢false (sym e))
 opposite_by true false e = refl
 opposite_by false v e = e

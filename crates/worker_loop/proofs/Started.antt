@@ -38,6 +38,7 @@ tools_of p = record {
   rooted = p.rooted;
   marks = p.marks;
   walker = p.walker;
+  jumper = p.jumper;
 }
 
 open_most : (ws : List ℕ) (x : ℕ) → open_at ws x ≤ 1
@@ -98,6 +99,7 @@ started p some limit model view unused tools store empty first budget =
         first_group = first;
         marks = tools.marks;
         walker = tools.walker;
+        jumper = tools.jumper;
         clock = omega (arith, tools.first.clock);
         budget = budget;
         few = tools.first.few;

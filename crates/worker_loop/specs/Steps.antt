@@ -4,6 +4,7 @@ pub mod Moves
 pub mod Asked
 pub mod Dropping
 pub mod Following
+pub mod Jumps
 pub mod Tools
 pub mod Handing
 pub mod Running

@@ -152,7 +152,7 @@ impl<'f, 'r> Post<'f, 'r> {
     }
 
     /// Whether the model gives the variable the value opposite to its phase.
-    fn is_against(&self, model: &Values, var: u32) -> bool
+    pub fn is_against(&self, model: &Values, var: u32) -> bool
         requires post { IsPost self.now }
         requires var { (0 < var) × (var ≤ self.now.question.now.formula.vars) }
         requires model { length model.now ≡ self.now.question.now.formula.vars }

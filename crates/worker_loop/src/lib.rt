@@ -13,6 +13,7 @@ mod endings;
 mod findings;
 mod fixing;
 mod gate;
+mod jumping;
 mod loading;
 mod masks;
 mod post;

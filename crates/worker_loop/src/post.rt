@@ -2,6 +2,7 @@ ghost use Rattle.std.specs.Prelude.{◌≡◌};
 ghost use Rattle.worker_loop.specs.Steps.Held.{state_of};
 ghost use Rattle.worker_loop.specs.Steps.Handing.{HasHandedIn};
 
+use crate::jumping::Jumper;
 use crate::{End, Findings, Question};
 use assumption_solver::Solver;
 use candidate_words::Seat;
@@ -32,6 +33,7 @@ pub(crate) struct Post<'f, 'r> {
     pub first_group: u32,
     pub marks: Marks,
     pub walker: Walker,
+    pub jumper: Jumper<'f>,
     pub budget: u64,
 }
 

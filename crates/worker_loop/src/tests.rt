@@ -18,6 +18,7 @@ use std::boxed::Box;
 use std::test::Fail;
 
 mod drawn;
+mod jumps;
 mod turns;
 
 /// More learnt clauses than any worker here needs.

@@ -4,6 +4,7 @@ ghost use Rattle.worker_loop.specs.Posts.{IsFirst, IsUnused, IsNewPost};
 ghost use Rattle.worker_loop.specs.Steps.Held.{IsWorker, state_of};
 ghost use Rattle.worker_loop.specs.Steps.Tools.{AreTools};
 
+use crate::jumping::Jumper;
 use crate::post::Post;
 use crate::{Question, Share};
 use assumption_solver::Solver;
@@ -24,6 +25,7 @@ pub(crate) struct Tools<'f> {
     rooted: Vec<u32>,
     marks: Marks,
     walker: Walker,
+    jumper: Jumper<'f>,
 }
 
 impl<'f> Tools<'f> {
@@ -54,6 +56,7 @@ impl<'f> Tools<'f> {
             rooted: vec![in alloc; 0; groups]?,
             marks: Marks::new(alloc, vars)?,
             walker,
+            jumper: Jumper::new(question.formula(), seed_of(share)),
         })
     }
 
@@ -89,6 +92,7 @@ impl<'f> Tools<'f> {
             first_group: first_group as u32,
             marks: self.marks,
             walker: self.walker,
+            jumper: self.jumper,
             budget: share.budget,
         }
     }
@@ -105,9 +109,11 @@ fn begun<'f, 'r>(
     ensures { IfOk result (IsFirst question.now share.budget) }
 {
     let formula = question.formula();
-    chooser.begin(
-        formula.vars(),
-        share.seed.wrapping_add(u64::from(share.number)),
-    )?;
+    chooser.begin(formula.vars(), seed_of(share))?;
     Solver::new(alloc, formula)
+}
+
+/// The seed of a worker's draws.
+fn seed_of(share: Share) -> u64 {
+    share.seed.wrapping_add(u64::from(share.number))
 }

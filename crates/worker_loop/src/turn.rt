@@ -1,14 +1,16 @@
 //! A turn: the loads, a core query, and what follows from its answer.
-ghost use Rattle.std.specs.Prelude.{◌≡◌, ◌^◌, ◌<◌, ◌≤◌, length, IfOk, OnOk, All, map};
+ghost use Rattle.std.specs.Prelude.{◌≡◌, ◌^◌, ◌<◌, ◌≤◌, length, IfOk, IfSome, OnOk, All, map};
+ghost use Rattle.cnf_core.specs.Literals.{AreWithin};
 ghost use Rattle.cnf_core.specs.Formulas.{IsModel};
 ghost use Rattle.board_core.specs.Subjects.{groups};
 ghost use Rattle.candidate_words.specs.Seats.{Sits};
 ghost use Rattle.core_chunks.specs.Chunks.{IsBlockOf};
 ghost use Rattle.worker_loop.specs.Posts.{IsLater, HasStored};
 ghost use Rattle.worker_loop.specs.Steps.Held.{IsPost, state_of, IsBetweenTurns};
-ghost use Rattle.worker_loop.specs.Steps.Moves.{IsLoaded, IsOnward, IsAskedTimes, against_phase, IsDropped, IsUnmoved, KeepsSettled, IsBlockOfAll};
+ghost use Rattle.worker_loop.specs.Steps.Moves.{IsLoaded, IsOnward, IsAskedTimes, against_phase, IsUnmoved, KeepsSettled, IsBlockOfAll};
 ghost use Rattle.worker_loop.specs.Turns.{Goes};
 ghost use Rattle.worker_loop.specs.Steps.Following.{Follows, PostSays, IsCoreOf};
+ghost use Rattle.worker_loop.specs.Steps.Jumps.{Serves};
 ghost use Rattle.worker_loop.specs.declared.endings.TurnEnd.{TurnEnd};
 
 use crate::TurnEnd;
@@ -24,10 +26,13 @@ use core_chunks::block;
 use std::alloc::Global;
 
 /// A block has at most so many candidates.
-const BLOCK: u32 = 256;
+pub(crate) const BLOCK: u32 = 256;
 
 /// So many open candidates are decided against their phases, beside the block.
 const DOSE: u32 = 1024;
+
+/// A jump is tried over at most so many open candidates.
+const MOST_LEFT: u32 = 512;
 
 impl<'f, 'r> Post<'f, 'r> {
     /// Takes a turn.
@@ -105,7 +110,7 @@ impl<'f, 'r> Post<'f, 'r> {
         match self.ask(words, &assume, &[], chooser) {
             Asked::Closed => Ok(TurnEnd::Going),
             Asked::Answered(Found::Model(model)) => {
-                self.take_model(words, model)?;
+                self.take_model(words, model, &[])?;
                 Ok(TurnEnd::Going)
             }
             Asked::Answered(Found::Core { lits, .. }) => self.take_core(words, &lits, chooser),
@@ -145,19 +150,22 @@ impl<'f, 'r> Post<'f, 'r> {
     }
 
     /// Stores a model and drops candidates by it, after candidates that keep their phases in it were turned as far as
-    /// that goes by single flips.
-    fn take_model(&mut self, words: &Words, model: Values) -> Result<(), NoMemory>
+    /// that goes by single flips, or a model to which it jumps from there. By its drops the turn goes on.
+    fn take_model(&mut self, words: &Words, model: Values, core: &[Lit]) -> Result<(), NoMemory>
         requires post { IsPost self.old }
         requires sits { Sits words.now self.old.seat }
         requires copied { IsLoaded self.old }
         requires model { IsModel self.old.question.now.formula model }
+        requires core { AreWithin self.old.question.now.formula.vars core.now }
+        requires refuted { 0 < length core.now → IsCoreOf self.old core.now }
+        requires serves { Serves self.old core.now model }
         requires room { length self.old.models.models < 2 ^ 26 }
         ensures post { IsPost self.new }
         ensures sits { Sits words.now self.new.seat }
         ensures onward { IsOnward self.old self.new }
         ensures solver { self.new.solver ≡ self.old.solver }
         ensures stored { HasStored self.old.models self.new.models }
-        ensures dropped { OnOk result (IsDropped self.old model self.new) }
+        ensures goes { OnOk result (Goes (state_of self.new)) }
         ensures settled { OnOk result (KeepsSettled self.old self.new) }
     {
         let candidates = self.open_block(0, self.question.formula().vars())?;
@@ -165,9 +173,55 @@ impl<'f, 'r> Post<'f, 'r> {
         let rests = self
             .question
             .walk(&mut self.walker, &mut model, &candidates);
+        if let Some(better) = self.jump(&model, &candidates, core) {
+            return self.absorb(words, &better, Flips::Listed);
+        }
         let flips = if rests { Flips::None } else { Flips::Listed };
-        self.absorb(words, &model, flips)?;
-        Ok(())
+        self.absorb(words, &model, flips)
+    }
+
+    /// A model that leaves fewer of the open candidates than this one, where few are left and a search by flips finds one
+    /// that leaves none, or also a model against all that are left, by whose signs the solver then goes on.
+    fn jump(&mut self, model: &Values, candidates: &[u32], core: &[Lit]) -> Option<Values>
+        requires post { IsPost self.old }
+        requires model { IsModel self.old.question.now.formula model.now }
+        requires candidates { IsBlockOf self.old.loaded.items self.old.question.now.formula.vars self.old.question.now.formula.vars candidates.now }
+        requires core { AreWithin self.old.question.now.formula.vars core.now }
+        requires refuted { 0 < length core.now → IsCoreOf self.old core.now }
+        ensures post { IsPost self.new }
+        ensures same { IsUnmoved self.old self.new }
+        ensures model { IfSome result (IsModel self.old.question.now.formula) }
+        ensures serves { IfSome result (Serves self.old core.now) }
+    {
+        if !self.leaves_few(model, candidates) {
+            return None;
+        }
+        if !self.jumper.is_due(&self.solver) {
+            return None;
+        }
+        let Ok(wanted) = self.against(candidates) else {
+            return None;
+        };
+        self.jumper
+            .jump(self.alloc, &mut self.solver, model, &wanted, core)
+    }
+
+    /// Whether some of the candidates keep their phases in a model, and few of them.
+    fn leaves_few(&self, model: &Values, candidates: &[u32]) -> bool
+        requires post { IsPost self.now }
+        requires model { length model.now ≡ self.now.question.now.formula.vars }
+        requires candidates { All (λ x. (0 < x) × (x ≤ self.now.question.now.formula.vars)) candidates.now }
+    {
+        let mut left: u32 = 0;
+        for var in candidates {
+            if !self.is_against(model, *var) {
+                left = left.saturating_add(1);
+            }
+            if left > MOST_LEFT {
+                return false;
+            }
+        }
+        left > 0
     }
 
     /// Fixes a core of one literal. Of a core of more it asks for a model in which one of them is false.
@@ -239,7 +293,7 @@ impl<'f, 'r> Post<'f, 'r> {
         match self.ask(words, &[], core, chooser) {
             Asked::Closed => Ok(TurnEnd::Going),
             Asked::Answered(Found::Model(model)) => {
-                self.take_model(words, model)?;
+                self.take_model(words, model, core)?;
                 Ok(TurnEnd::Going)
             }
             Asked::Answered(Found::AllFixed) => {

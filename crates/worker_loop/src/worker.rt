@@ -33,7 +33,8 @@ pub struct Share {
     pub workers: u32,
     /// How many clauses it may learn, from 1 to 2^40.
     pub budget: u64,
-    /// The seed of the run. A worker's chooser begins with it plus the worker's number, modulo 2^64.
+    /// The seed of the run. A worker's chooser and its local search begin with it plus the worker's number,
+    /// modulo 2^64.
     pub seed: u64,
 }
 

@@ -48,6 +48,7 @@ pub record IsPost (p : Post) : Type 0 where
   pub first_group : p.first_group < groups p.question.now.formula.vars
   pub marks : length p.marks ≡ p.question.now.formula.vars
   pub walker : p.walker ≡ p.question.now.formula.vars
+  pub jumper : p.jumper ≡ p.question.now.formula
   pub clock : p.solver.log.clock ≤ p.question.now.formula.vars
   pub budget : p.budget ≤ 2 ^ 40
   pub few : learnt_count p.solver.log.entries ≤ p.budget

@@ -15,3 +15,4 @@ pub record AreTools (a : About) (budget : ℕ) (t : Tools) : Type 0 where
   pub rooted : t.rooted.items ≡ replicate (groups a.formula.vars) 0
   pub marks : length t.marks ≡ a.formula.vars
   pub walker : t.walker ≡ a.formula.vars
+  pub jumper : t.jumper ≡ a.formula

@@ -44,6 +44,7 @@ returns-clause-post c =
       first_group = c.requires.post.first_group;
       marks = c.requires.post.marks;
       walker = c.requires.post.walker;
+      jumper = c.requires.post.jumper;
       clock = c.requires.post.clock;
       budget = c.requires.post.budget;
       few = c.requires.post.few;

@@ -1,10 +1,11 @@
-use Rattle.std.proofs.Common.{◌≡◌, [], sym, subst, ◌∙◌}
+use Rattle.std.proofs.Common.{◌≡◌, [], inr, sym, subst, ◌∙◌}
 use Rattle.std.specs.Prelude.{All}
+use Rattle.cnf_core.specs.Literals.{AreWithin}
 use Rattle.board_core.specs.Subjects.{About, candidate}
 use Rattle.assumption_solver.specs.Answers.{IsModelFor, FoundSays}
 use Rattle.assumption_solver.specs.declared.found.Found.{Found}
-use Rattle.worker_loop.proofs.Cores.{shown_core, within_core, closed_by_model, phases_onward, has_model, goes_all}
-use Rattle.worker_loop.proofs.Going.{goes_by_core, loaded_onward_copy}
+use Rattle.worker_loop.proofs.Cores.{shown_core, within_core, has_model, goes_all}
+use Rattle.worker_loop.proofs.Landed.{core_later}
 use Rattle.worker_loop.proofs.Onward.{onward_trans}
 use Rattle.worker_loop.proofs.Replies.{no_core}
 use Rattle.worker_loop.proofs.Settling.{settled_onward, onward_from}
@@ -63,19 +64,27 @@ returns-in_ok-take_model-in-Answered-Model-clause-onward g c =
     let onward = onward_from c.args.self.now c.ask.new.self c.prefer_against.new.solver c.prefer_against.ensures c.ask.ensures.onward in
     onward_trans c.args.self.now c.ask.new.self c.take_model.new.self onward c.take_model.ensures.onward
 
-pub returns-in_ok-take_model-in-Answered-Model-clause-follows : goal.returns-in_ok-take_model-in-Answered-Model-clause-follows
-returns-in_ok-take_model-in-Answered-Model-clause-follows g c =
+pub take_model-requires-clause-core : goal.take_model-requires-clause-core
+take_model-requires-clause-core g c =
     let p = c.args.self.now in
     let onward = onward_from p c.ask.new.self c.prefer_against.new.solver c.prefer_against.ensures c.ask.ensures.onward in
-    let all = onward_trans p c.ask.new.self c.take_model.new.self onward c.take_model.ensures.onward in
-    let copied = loaded_onward_copy p c.ask.new.self c.requires.copied onward in
-    let were_open = phases_onward p c.ask.new.self c.args.core.now onward c.requires.core.were_open in
+    subst (λ (a : About). AreWithin a.formula.vars c.args.core.now) (sym onward.question)
+    (within_core p c.args.core.now c.requires.post c.requires.copied c.requires.core.were_open)
+
+pub take_model-requires-clause-refuted : goal.take_model-requires-clause-refuted
+take_model-requires-clause-refuted g c = λ _.
+    let onward = onward_from c.args.self.now c.ask.new.self c.prefer_against.new.solver c.prefer_against.ensures c.ask.ensures.onward in
+    core_later c.args.self.now c.ask.new.self c.args.core.now onward c.requires.core
+
+pub take_model-requires-clause-serves : goal.take_model-requires-clause-serves
+take_model-requires-clause-serves g c =
+    let onward = onward_from c.args.self.now c.ask.new.self c.prefer_against.new.solver c.prefer_against.ensures c.ask.ensures.onward in
     let says : IsModelFor c.ask.new.self.solver.log.formula [] c.args.core.now c.in-Answered-Model.model =
     subst (λ (f : Found). FoundSays f [] c.args.core.now c.ask.new.self.budget c.ask.new.self.solver.log) c.in-Answered-Model.field-0-is c.in-Answered-Model.ensures.says in
-    let split = says.split c.requires.core.some in
-    goes_by_core p c.take_model.new.self c.args.core.now split.literal c.requires.copied all c.requires.post c.requires.core split.member
-    (closed_by_model c.ask.new.self c.take_model.new.self c.args.core.now c.in-Answered-Model.model c.ask.ensures.post copied were_open
-    c.in_ok-take_model-in-Answered-Model.ensures.dropped split)
+    inr (record {
+      is = core_later c.args.self.now c.ask.new.self c.args.core.now onward c.requires.core;
+      split = says.split c.requires.core.some;
+    })
 
 pub returns-in_ok-take_model-in-Answered-Model-clause-settled : goal.returns-in_ok-take_model-in-Answered-Model-clause-settled
 returns-in_ok-take_model-in-Answered-Model-clause-settled g c = λ settled.

@@ -16,7 +16,8 @@ use Rattle.worker_loop.proofs.Queries.{asked_after}
 use Rattle.worker_loop.proofs.Turning.{learnt_longer, unmoved_onward}
 use Rattle.worker_loop.proofs.Settling.{settled_onward}
 use Rattle.worker_loop.proofs.Cores.{has_model}
-use Rattle.worker_loop.proofs.Blocked.{within_against, closed_by_all, closed_by_assumed, core_onward}
+use Rattle.worker_loop.proofs.Blocked.{within_against, closed_by_all, core_onward}
+use Rattle.worker_loop.proofs.Landed.{assumed_serves}
 use Rattle.worker_loop.proofs.post.Post.work.Goals as goal
 
 -- the query went on from the post that the turn began with
@@ -62,8 +63,8 @@ returns-in-Answered-Model-clause-onward g c =
     let all = from_start c.args.self.now c.prefer.new.self c.ask.new.self c.prefer.ensures.same c.ask.ensures.onward in
     onward_trans c.args.self.now c.ask.new.self c.take_model.new.self all c.take_model.ensures.onward
 
-pub returns-in-Answered-Model-clause-follows : goal.returns-in-Answered-Model-clause-follows
-returns-in-Answered-Model-clause-follows g c =
+pub take_model-requires-clause-serves : goal.take_model-requires-clause-serves
+take_model-requires-clause-serves g c =
     let p = c.args.self.now in
     let q = c.ask.new.self in
     let is : c.deref-2.result.now ≡ map (against_phase p.question.now.phases) c.args.block.now = c.deref-2.ensures.value ∙ c.in_ok-assume.ensures in
@@ -72,10 +73,7 @@ returns-in-Answered-Model-clause-follows g c =
     subst (λ (f : Found). FoundSays f c.deref-2.result.now [] q.budget q.solver.log) c.in-Answered-Model.field-0-is c.in-Answered-Model.ensures.says in
     let assumed : (l : Literal) → Contains (map (against_phase p.question.now.phases) c.args.block.now) l → is_true c.in-Answered-Model.model l ≡ true =
     λ l among. says.assumed l (subst (λ (ls : Literals). Contains ls l) (sym is) among) in
-    goes_by_block p c.take_model.new.self c.args.block.now c.requires.copied (onward_trans p q c.take_model.new.self all c.take_model.ensures.onward)
-    c.requires.block c.requires.some
-    (closed_by_assumed p q c.take_model.new.self c.args.block.now c.in-Answered-Model.model all c.requires.block assumed
-    c.in_ok-take_model-in-Answered-Model.ensures.dropped)
+    assumed_serves p q c.args.block.now c.in-Answered-Model.model all c.requires.block c.requires.some assumed
 
 pub returns-in-Answered-Model-clause-settled : goal.returns-in-Answered-Model-clause-settled
 returns-in-Answered-Model-clause-settled g c = λ settled.

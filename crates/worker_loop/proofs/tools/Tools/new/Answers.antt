@@ -26,4 +26,5 @@ returns g c =
       rooted = zeros ∙ ap (λ (k : ℕ). replicate k 0) count;
       marks = ap (λ (ms : List Bool). length ms) c.in_ok-new.ensures ∙ length-replicate c.vars-vars.result false ∙ vars;
       walker = c.in_ok-walker.ensures;
+      jumper = search rules;
     }
