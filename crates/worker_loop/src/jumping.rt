@@ -79,7 +79,7 @@ impl Pace {
 
 /// What the searches of a worker go over.
 #[derive(Drop)]
-struct Ground<'f> {
+struct Terrain<'f> {
     tables: Tables<'f>,
     search: LocalSearch,
     descent: Descent,
@@ -93,27 +93,27 @@ struct Ground<'f> {
     low: u32,
 }
 
-impl<'f> Model for Ground<'f> {
+impl<'f> Model for Terrain<'f> {
     ghost use Rattle.cnf_core.specs.Formulas.{Cnf};
-    ghost use Rattle.worker_loop.specs.Steps.Jumps.{IsGround};
+    ghost use Rattle.worker_loop.specs.Steps.Jumps.{IsTerrain};
 
     ghost Value = { Cnf };
 
     ghost view = { λ g. g.tables.formula };
 
-    ghost invariant = { λ g. IsGround g.tables g.search g.descent g.fixed };
+    ghost invariant = { λ g. IsTerrain g.tables g.search g.descent g.fixed };
 }
 
-impl<'f> Ground<'f> {
-    /// The ground of a formula, with draws from this seed on.
-    fn new(alloc: Global, formula: &'f Formula, seed: u64) -> Result<Ground<'f>, NoMemory>
-        ensures { IfOk result (λ ground. ground ≡ formula.now) }
+impl<'f> Terrain<'f> {
+    /// The terrain of a formula, with draws from this seed on.
+    fn new(alloc: Global, formula: &'f Formula, seed: u64) -> Result<Terrain<'f>, NoMemory>
+        ensures { IfOk result (λ terrain. terrain ≡ formula.now) }
     {
         let tables = Tables::new(alloc, formula)?;
         let search = LocalSearch::new(alloc, &tables, seed)?;
         let descent = Descent::new(alloc, &tables)?;
         let fixed = Values::new(alloc, tables.vars())?;
-        Ok(Ground {
+        Ok(Terrain {
             tables,
             search,
             descent,
@@ -209,7 +209,7 @@ impl<'f> Ground<'f> {
     }
 }
 
-/// The local search of a worker. Its ground is made when it is first needed; without memory for it there is none.
+/// The local search of a worker. Its terrain is made when it is first needed; without memory for it there is none.
 #[derive(Drop)]
 pub(crate) struct Jumper<'f> {
     formula: &'f Formula,
@@ -217,7 +217,7 @@ pub(crate) struct Jumper<'f> {
     /// How many visits a descent and a search behind it begin with.
     beginning: u64,
     pace: Pace,
-    ground: Option<Ground<'f>>,
+    terrain: Option<Terrain<'f>>,
 }
 
 impl<'f> Model for Jumper<'f> {
@@ -228,7 +228,7 @@ impl<'f> Model for Jumper<'f> {
 
     ghost view = { λ j. j.formula.now };
 
-    ghost invariant = { λ j. IfSome j.ground (λ F. F ≡ j.formula.now) };
+    ghost invariant = { λ j. IfSome j.terrain (λ F. F ≡ j.formula.now) };
 }
 
 impl<'f> Jumper<'f> {
@@ -241,7 +241,7 @@ impl<'f> Jumper<'f> {
             seed,
             beginning: beginning_of(formula),
             pace: Pace::new(),
-            ground: None,
+            terrain: None,
         }
     }
 
@@ -274,21 +274,21 @@ impl<'f> Jumper<'f> {
         ensures solver { solver.new ≡ solver.old }
         ensures landing { IfSome result (IsLanding self.old wanted.now core.now) }
     {
-        self.make_ground(alloc);
-        let Some(ground) = &mut self.ground else {
+        self.make_terrain(alloc);
+        let Some(terrain) = &mut self.terrain else {
             return None;
         };
-        let found = ground.jump(alloc, solver, model, wanted, core);
-        self.pace.note(ground.visits, ground.low);
+        let found = terrain.jump(alloc, solver, model, wanted, core);
+        self.pace.note(terrain.visits, terrain.low);
         found
     }
 
-    /// Makes the ground, if there is none and there is memory for it.
-    fn make_ground(&mut self, alloc: Global)
+    /// Makes the terrain, if there is none and there is memory for it.
+    fn make_terrain(&mut self, alloc: Global)
         ensures { self.new ≡ self.old }
     {
-        if self.ground.is_none() {
-            self.ground = Ground::new(alloc, self.formula, self.seed).ok();
+        if self.terrain.is_none() {
+            self.terrain = Terrain::new(alloc, self.formula, self.seed).ok();
         }
     }
 }

@@ -13,7 +13,7 @@ use Rattle.worker_loop.specs.declared.post.Post.{Post}
 use Rattle.worker_loop.specs.Steps.Following.{IsCoreOf}
 
 -- search and descent were made for the tables, and there is a mark for each variable
-pub record IsGround (t : Tabled) (s : LocalSearch) (d : Descent) (fixed : Assignment) : Type 0 where
+pub record IsTerrain (t : Tabled) (s : LocalSearch) (d : Descent) (fixed : Assignment) : Type 0 where
   pub search : IsSearchOf t s
   pub descent : IsDescentOf t d
   pub marks : length fixed ≡ t.formula.vars
