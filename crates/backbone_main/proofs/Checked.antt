@@ -22,7 +22,7 @@ use Rattle.backbone_main.specs.Verdicts.{verdict_code, verdict_text}
 use Rattle.backbone_main.specs.Endings.{IsItsOwn, IsOwnAct, code_of}
 use Rattle.backbone_main.specs.Checking.{AreGiven, CheckAccounts, Checks, FailsChecking, FailsToReadFeed, FindsFeedTooLong, Judges, RefusesLong, RefusesRead, check_uses, names_witness}
 use Rattle.backbone_main.proofs.Given.{MeansFormula, at_code, both_mean, given_too_long, long_means, meant, means_formula, never_rose, no_longer, same_meaning}
-use Rattle.backbone_main.proofs.Onward.{front_onward, gave_onward, long_onward, read_onward, refused_onward, rose_onward, silent_onward, took_onward, unopened_onward, unread_onward}
+use Rattle.backbone_main.proofs.Onward.{ends_onward, front_onward, gave_onward, long_onward, read_onward, refused_onward, rose_onward, silent_onward, took_onward, unopened_onward, unread_onward}
 
 -- ---- past the note
 
@@ -44,7 +44,7 @@ long_feed_onward f a b d is only = record {
     bytes = is.wrote.bytes;
     took = took_onward f is.wrote.bytes a b d is.wrote.took only;
     long = is.wrote.long;
-    silent = silent_onward a b d is.wrote.silent only;
+    behind = ends_onward (Read f) a b d is.wrote.behind only;
   };
 }
 
@@ -55,7 +55,7 @@ unread_feed_onward f a b d is only = record {
   read = read_onward a b d is.read (only.left feed.Text);
   wrote = record {
     rose = rose_onward (Read f) a b d is.wrote.rose (λ e. absurd (cc)) only;
-    silent = silent_onward a b d is.wrote.silent only;
+    behind = ends_onward (Read f) a b d is.wrote.behind only;
   };
 }
 

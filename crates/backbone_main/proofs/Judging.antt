@@ -5,19 +5,20 @@ use Rattle.bone_desk.specs.declared.desk.Feed.{Feed}
 use Rattle.bone_desk.specs.declared.desk.Feed.TheVariants as feed
 use Rattle.bone_desk.specs.declared.desk.Port.{Port}
 use Rattle.bone_desk.specs.declared.desk.Port.TheVariants as port
+use Rattle.bone_desk.specs.declared.desk.Act.{Act}
 use Rattle.bone_desk.specs.declared.desk.Act.TheVariants.{OpenFeed, OpenPort, Read, Write}
-use Rattle.bone_desk.specs.Told.{Told, Rose, ReadsOnly, Took}
+use Rattle.bone_desk.specs.Told.{Told, Rose, ReadsOnly, Took, feed_index, port_index}
 use Rattle.cnf_core.specs.Formulas.{Cnf}
 use Rattle.bone_words.specs.Settings.{Checking, to_check}
 use Rattle.bone_check.specs.declared.verdict.Verdict.{Verdict}
 use Rattle.bone_check.specs.declared.verdict.CheckEnd.{CheckEnd}
 use Rattle.bone_check.specs.declared.verdict.CheckEnd.TheVariants as check
 use Rattle.bone_check.specs.Checks as feeds
-use Rattle.bone_check.specs.Checks.{AllCame, AllLeft, IsVerdict, Says, is_read, limit_of, verdict_on}
+use Rattle.bone_check.specs.Checks.{AllCame, AllLeft, EndsAtFeed, IsVerdict, Says, is_read, limit_of, verdict_on}
 use Rattle.bone_check.specs.Laws.{VerifiedIsRight}
 use Rattle.backbone_main.specs.declared.ending.Ending.{Ending}
 use Rattle.backbone_main.specs.declared.ending.Ending.TheVariants.{OutOfMemory, BadText, TooLong, Failed}
-use Rattle.backbone_main.specs.Causes.{ReadsAndWrites, ReadsText, WritesNothing}
+use Rattle.backbone_main.specs.Causes.{EndsAt, ReadsAndWrites, ReadsText, turn_of}
 use Rattle.backbone_main.specs.Verdicts.{verdict_text}
 use Rattle.backbone_main.specs.Checking.{AllTook, FailsToReadFeed, FindsFeedTooLong, Judges, check_uses, names_witness}
 use Rattle.backbone_main.specs.Steps.Finish.{IsUnopened, IsUnread, Opens, Runs, Touches}
@@ -95,9 +96,10 @@ touches_tests c came m d all = record {
   notes_count = all.others (Write port.Notes) (λ f read is. absurd (cc));
 }
 
--- up to the verdict nothing was written
+-- up to the verdict nothing was written, and the other feeds were read behind the text
 pub record IsReadThrough (c : Checking) (F : Cnf) (a m d : Told) (came : feeds.Texts) : Type 0 where
   pub read : ReadsText (Ok F) a d
+  pub unread : (f : Feed) → f ≢ feed.Text → m.left f ≡ a.left f
   pub took : AllTook came a d
   pub put : SamePuts a d
   pub writes : (p : Port) → d.faults (Write p) ≡ a.faults (Write p)
@@ -109,6 +111,7 @@ read_through : {last : ℕ} (c : Checking) (F : Cnf) (a b m d : Told) (came : fe
 read_through c F a b m d came opens only read all = record {
   read = read_onward a m d (reads_later (check_uses c) a b m opens read)
       (took_nothing feed.Text (came feed.Text) m d (all.unread feed.Text refl) (all.took feed.Text));
+  unread = λ f other. only.left f other ∙ opens.same.left f;
   took = λ f other. sym (only.left f other ∙ opens.same.left f) ∙ all.took f;
   put = λ p. all.put p ∙ only.put p ∙ opens.same.put p;
   writes = λ p. all.others (Write p) (λ f read is. absurd (cc)) ∙ only.counts.others (Write p) (λ is. absurd (cc)) ∙ opens.writes p;
@@ -179,26 +182,59 @@ tells w c F verdict ending a m d e came law vars through is told =
 
 -- ---- no verdict
 
-silent : (a d : Told) → SamePuts a d → WritesNothing a d
-silent a d put p other = put p
+few_feeds : (f : Feed) → feed_index f ≤ 3
+few_feeds feed.Text = omega arith
+few_feeds feed.Answer = omega arith
+few_feeds feed.Proof = omega arith
+few_feeds feed.Witness = omega arith
+
+few_ports : (p : Port) → port_index p ≤ 3
+few_ports port.Answer = omega arith
+few_ports port.Proof = omega arith
+few_ports port.Witness = omega arith
+few_ports port.Notes = omega arith
+
+-- a feed that is read behind another one isn't that of the text
+behind_text : (f g : Feed) → turn_of (Read f) < turn_of (Read g) → g ≢ feed.Text
+behind_text f g later is = let place = ap feed_index is in absurd (omega (arith, later, place))
+
+unmade : (c : Checking) (F : Cnf) (f : Feed) (a m d : Told) (came : feeds.Texts) (act : Act) → IsReadThrough c F a m d came
+    → EndsAtFeed f m d → turn_of (Read f) < turn_of act → d.faults act ≡ a.faults act
+unmade c F f a m d came (OpenFeed g) through ends later = let few = few_feeds g in absurd (omega (arith, later, few))
+unmade c F f a m d came (OpenPort p) through ends later = let few = few_ports p in absurd (omega (arith, later, few))
+unmade c F f a m d came (Read g) through ends later = ends.counts g (omega (arith, later)) ∙ through.reads g (behind_text f g later)
+unmade c F f a m d came (Write p) through ends later = through.writes p
+
+ends_at_feed : (c : Checking) (F : Cnf) (f : Feed) (a m d : Told) (came : feeds.Texts) → IsReadThrough c F a m d came
+    → EndsAtFeed f m d → EndsAt (Read f) a d
+ends_at_feed c F f a m d came through ends = record {
+  counts = λ act later. unmade c F f a m d came act through ends later;
+  left = λ g later. ends.left g (omega (arith, later)) ∙ through.unread g (behind_text f g later);
+  put = λ p later. through.put p;
+}
 
 unread_feed : (c : Checking) (F : Cnf) (f : Feed) (a m d : Told) (came : feeds.Texts) → IsReadThrough c F a m d came → f ≢ feed.Text
-    → Rose (Read f) m d → ReadsAndWrites (FailsToReadFeed f) a d
-unread_feed c F f a m d came through other rose = record {
+    → Rose (Read f) m d → EndsAtFeed f m d → ReadsAndWrites (FailsToReadFeed f) a d
+unread_feed c F f a m d came through other rose ends = record {
   formula = F;
   read = through.read;
   wrote = record {
     rose = subst (λ (k : ℕ). k < 2 ^ 64 - 1 → k < d.faults (Read f)) (through.reads f other) rose;
-    silent = silent a d through.put;
+    behind = ends_at_feed c F f a m d came through ends;
   };
 }
 
 long_feed : (c : Checking) (F : Cnf) (f : Feed) (a m d : Told) (came : feeds.Texts) → IsReadThrough c F a m d came → f ≢ feed.Text
-    → limit_of f < length (came f) → ReadsAndWrites (FindsFeedTooLong f) a d
-long_feed c F f a m d came through other long = record {
+    → limit_of f < length (came f) → EndsAtFeed f m d → ReadsAndWrites (FindsFeedTooLong f) a d
+long_feed c F f a m d came through other long ends = record {
   formula = F;
   read = through.read;
-  wrote = record { bytes = came f; took = through.took f other; long = long; silent = silent a d through.put };
+  wrote = record {
+    bytes = came f;
+    took = through.took f other;
+    long = long;
+    behind = ends_at_feed c F f a m d came through ends;
+  };
 }
 
 nothing_long : (f : Feed) (came : List ℕ) → came ≡ [] → limit_of f < length came → ⊥
@@ -217,39 +253,39 @@ ends : (w : ℕ) (c : Checking) (F : Cnf) (end : CheckEnd) (a m d : Told) (came 
     → Runs w (Some (to_check c)) (end_of end) a d
 ends w c F (check.Fault feed.Text) a m d came through all says = absurd (true≢false (sym says.0))
 ends w c F (check.Fault feed.Answer) a m d came through all says = record {
-  account = unread_feed c F feed.Answer a m d came through (λ is. absurd (cc)) says.1;
+  account = unread_feed c F feed.Answer a m d came through (λ is. absurd (cc)) says.1 says.2;
   own = record { used = refl; no_note = λ is. absurd (cc) };
   touches = through.touches;
 }
 ends w c F (check.Fault feed.Proof) a m d came through all says = record {
-  account = unread_feed c F feed.Proof a m d came through (λ is. absurd (cc)) says.1;
+  account = unread_feed c F feed.Proof a m d came through (λ is. absurd (cc)) says.1 says.2;
   own = record { used = refl; no_note = λ is. absurd (cc) };
   touches = through.touches;
 }
 ends w c F (check.Fault feed.Witness) a m d came through all says = record {
-  account = unread_feed c F feed.Witness a m d came through (λ is. absurd (cc)) says.1;
+  account = unread_feed c F feed.Witness a m d came through (λ is. absurd (cc)) says.1 says.2;
   own = record { used = says.0; no_note = λ is. absurd (cc) };
   touches = through.touches;
 }
 ends w c F (check.TooLong feed.Text) a m d came through all says =
-    absurd (nothing_long feed.Text (came feed.Text) (all.unread feed.Text refl) says)
+    absurd (nothing_long feed.Text (came feed.Text) (all.unread feed.Text refl) says.0)
 ends w c F (check.TooLong feed.Answer) a m d came through all says = record {
-  account = long_feed c F feed.Answer a m d came through (λ is. absurd (cc)) says;
+  account = long_feed c F feed.Answer a m d came through (λ is. absurd (cc)) says.0 says.1;
   own = refl;
   touches = through.touches;
 }
 ends w c F (check.TooLong feed.Proof) a m d came through all says = record {
-  account = long_feed c F feed.Proof a m d came through (λ is. absurd (cc)) says;
+  account = long_feed c F feed.Proof a m d came through (λ is. absurd (cc)) says.0 says.1;
   own = refl;
   touches = through.touches;
 }
 ends w c F (check.TooLong feed.Witness) a m d came through all says = record {
-  account = long_feed c F feed.Witness a m d came through (λ is. absurd (cc)) says;
-  own = long_is_read c came m d all says;
+  account = long_feed c F feed.Witness a m d came through (λ is. absurd (cc)) says.0 says.1;
+  own = long_is_read c came m d all says.0;
   touches = through.touches;
 }
 ends w c F check.Memory a m d came through all says =
-    record { account = silent a d through.put; own = tt; touches = through.touches }
+    record { account = λ p other. through.put p; own = tt; touches = through.touches }
 
 -- ---- both
 

@@ -53,7 +53,7 @@ pub rose_onward : (act : Act) (a b c : Told) → Rose act a b → act ≢ Write 
 rose_onward act a b c rose other only =
     subst (λ (n : ℕ). a.faults act < 2 ^ 64 - 1 → a.faults act < n) (sym (only.counts.others act other)) rose
 
-ends_onward : (act : Act) (a b c : Told) → EndsAt act a b → WritesOnly port.Notes b c → EndsAt act a c
+pub ends_onward : (act : Act) (a b c : Told) → EndsAt act a b → WritesOnly port.Notes b c → EndsAt act a c
 ends_onward act a b c is only = record {
   counts = λ x later. only.counts.others x (λ same. note_is_apart x later same) ∙ is.counts x later;
   left = λ f later. only.left f ∙ is.left f later;

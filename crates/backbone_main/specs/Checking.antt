@@ -18,7 +18,7 @@ use Rattle.bone_check.specs.Checks as feeds
 use Rattle.bone_check.specs.Checks.{AllLeft, IsVerdict, limit_of, verdict_on}
 use Rattle.backbone_main.specs.declared.ending.Ending.{Ending}
 use Rattle.backbone_main.specs.declared.ending.Ending.TheVariants.{Judged, OutOfMemory, BadText, TooLong, Failed}
-use Rattle.backbone_main.specs.Causes.{Acts, AllOpens, FailsToOpen, FailsToRead, FindsTooLong, IsFaultless, IsGiven, IsOneOf, IsTaken, Means, ReadsAndWrites, RefusesText, WritesNothing}
+use Rattle.backbone_main.specs.Causes.{Acts, AllOpens, EndsAt, FailsToOpen, FailsToRead, FindsTooLong, IsFaultless, IsGiven, IsOneOf, IsTaken, Means, ReadsAndWrites, RefusesText, WritesNothing}
 use Rattle.backbone_main.specs.Verdicts.{verdict_text, verdict_code}
 
 -- whether the witness is named
@@ -65,17 +65,17 @@ pub record StopsTelling (c : Checking) (F : Cnf) (old new : Told) : Type 0 where
 
 -- ---- no verdict
 
--- too many bytes of a feed came
+-- too many bytes of a feed came; no feed behind it was read, and nothing was written
 pub record FindsFeedTooLong (f : Feed) (F : Cnf) (old new : Told) : Type 0 where
   pub bytes : List ℕ
   pub took : Took f bytes old new
   pub long : limit_of f < length bytes
-  pub silent : WritesNothing old new
+  pub behind : EndsAt (Read f) old new
 
--- a read of a feed failed
+-- a read of a feed failed; the same
 pub record FailsToReadFeed (f : Feed) (F : Cnf) (old new : Told) : Type 0 where
   pub rose : Rose (Read f) old new
-  pub silent : WritesNothing old new
+  pub behind : EndsAt (Read f) old new
 
 -- the text is refused by itself, the other feeds behind a text that means a formula
 abbrev pub RefusesLong : Feed → Told → Told → Type 0

@@ -32,6 +32,9 @@ use worker_loop::Gate;
 /// where it is named, and reads them in that order. It uses no worker. `sample` opens and reads nothing: it makes a formula
 /// from its numbers, searches it as `extract` does, and writes how large its backbone is.
 ///
+/// The verdict of `check` on what `extract` wrote with status 10 and both files, or with status 20 and the proof, is that
+/// it is verified.
+///
 /// | Status | What happened |
 /// |---|---|
 /// | 0 | `check`: the answer, the proof and the witness pass all tests; `sample`: the backbone is known. That was written |
@@ -49,7 +52,8 @@ use worker_loop::Gate;
 /// | 64 | the words have no settings; nothing was done |
 ///
 /// Where several causes stand together the order is 64, 62, then for the text 60 or 51, whichever came first, and 50.
-/// Then come the end of the run or the tests of `check`, in which 60 and 51 stand at the feed that is read, and 61.
+/// Then come the end of the run or the tests of `check`, in which 60 and 51 stand at the feed that is read, and 61. No
+/// feed is read behind one with 60 or 51.
 /// Status 40 may stand at any place, also before 64, since the words are read with memory, and no clause ties it to a
 /// refused growth.
 ///

@@ -2,7 +2,7 @@
 use Rattle.std.proofs.Common.{◌≡◌, ◌≢◌, ℕ, ◌<◌, ◌≤◌, ◌-◌, ◌^◌, Bool, true, false, if◌then◌else◌, List, [], ◌++◌, Result, Ok, Err, length, refl, sym, ap, ◌∙◌, subst, inl, inr, arith, append-nil, true≢false}
 use Rattle.std.specs.Prelude.{IsTrue, IsFalse}
 use Rattle.std.proofs.lemmas.Bool.{cases_lt}
-use Rattle.bone_desk.specs.Told.{Told, Took, Rose}
+use Rattle.bone_desk.specs.Told.{Told, Took, Rose, feed_index}
 use Rattle.bone_desk.specs.declared.desk.Act.{Act}
 use Rattle.bone_desk.specs.declared.desk.Act.TheVariants.{Read}
 use Rattle.bone_desk.specs.declared.desk.Feed.{Feed}
@@ -26,7 +26,7 @@ use Rattle.bone_check.specs.ProofFeed.{IsLeft}
 use Rattle.bone_check.specs.Checks.{Texts, AllCame, is_read, limit_of, Says, IsVerdict, ChecksAll, verdict_on}
 use Rattle.bone_check.specs.Steps.Parts.{texts_of, ChecksRest}
 use Rattle.bone_check.specs.Steps.Ending as ending
-use Rattle.bone_check.proofs.Gathered.{came_none, all_came, untouched, all_within, at_end, Judge, judged_on}
+use Rattle.bone_check.proofs.Gathered.{came_none, ends_at_read, ends_after_read, all_came, untouched, all_within, at_end, Judge, judged_on}
 
 -- a text that reads as an answer is judged as such
 pub judged_answer : (F : Cnf) (answer proof witness : List ℕ) (r : AnswerRead) → reading_of F.vars answer ≡ Ok r
@@ -80,8 +80,9 @@ pub answer_unread : (F : Cnf) (witness : Bool) (old new : Told) (answer : List �
 answer_unread F witness old new answer (answer_end.BadLine n) came ends = answer_fails F witness old new answer n line.Bad came ends
 answer_unread F witness old new answer (answer_end.NotSorted n) came ends = answer_fails F witness old new answer n line.NotSorted came ends
 answer_unread F witness old new answer answer_end.Fault came ends =
-    answer_ends F witness old new answer (Fault feed.Answer) came (refl, ends.rose)
-answer_unread F witness old new answer answer_end.TooLong came ends = answer_ends F witness old new answer (TooLong feed.Answer) came ends
+    answer_ends F witness old new answer (Fault feed.Answer) came (refl, ends.rose, ends_at_read feed.Answer old new came.only)
+answer_unread F witness old new answer answer_end.TooLong came ends =
+    answer_ends F witness old new answer (TooLong feed.Answer) came (ends, ends_at_read feed.Answer old new came.only)
 answer_unread F witness old new answer answer_end.Memory came ends = answer_ends F witness old new answer Memory came tt
 
 rose_since : (act : Act) (old mid new : Told) → old.faults act ≤ mid.faults act → mid.faults act ≤ new.faults act → Rose act mid new
@@ -90,6 +91,13 @@ rose_since act old mid new first second rose lt = elim (cases_lt (mid.faults act
   | inl below ↦ (let more = rose below in omega arith)
   | inr last ↦ omega arith
 ]
+
+-- the answer is read before the other feeds
+behind_answer : (witness : Bool) (f : Feed) → IsTrue (is_read witness f) → feed_index feed.Answer ≤ feed_index f
+behind_answer witness feed.Text is = absurd (true≢false (sym is))
+behind_answer witness feed.Answer is = omega arith
+behind_answer witness feed.Proof is = omega arith
+behind_answer witness feed.Witness is = omega arith
 
 -- the rest decides
 rest_says : (F : Cnf) (witness : Bool) (old mid new : Told) (answer proof evidence : List ℕ) (judge : Judge) (result : Result Verdict CheckEnd)
@@ -106,12 +114,19 @@ rest_says F witness old mid new answer proof evidence judge (Ok verdict) came wh
       ∙ decides (proof ++ rest feed.Proof) (if witness then evidence ++ rest feed.Witness else [])
       ∙ says.whole rest left;
 }
-rest_says F witness old mid new answer proof evidence judge (Err (Fault f)) came whole all same decides says =
-    (says.0, rose_since (Read f) old mid new (counts_never_fall came.only.counts (Read f)) (all.never_falls (Read f)) says.1)
-rest_says F witness old mid new answer proof evidence judge (Err (TooLong feed.Text)) came whole all same decides says = says
-rest_says F witness old mid new answer proof evidence judge (Err (TooLong feed.Answer)) came whole all same decides says = absurd (omega arith)
-rest_says F witness old mid new answer proof evidence judge (Err (TooLong feed.Proof)) came whole all same decides says = says
-rest_says F witness old mid new answer proof evidence judge (Err (TooLong feed.Witness)) came whole all same decides says = says
+rest_says F witness old mid new answer proof evidence judge (Err (Fault f)) came whole all same decides says = (
+  says.0,
+  rose_since (Read f) old mid new (counts_never_fall came.only.counts (Read f)) (all.never_falls (Read f)) says.1,
+  ends_after_read feed.Answer f old mid new (behind_answer witness f says.0) came.only says.2,
+)
+rest_says F witness old mid new answer proof evidence judge (Err (TooLong feed.Text)) came whole all same decides says =
+    absurd (omega (arith, says.0))
+rest_says F witness old mid new answer proof evidence judge (Err (TooLong feed.Answer)) came whole all same decides says =
+    absurd (omega (arith, says.0))
+rest_says F witness old mid new answer proof evidence judge (Err (TooLong feed.Proof)) came whole all same decides says =
+    (says.0, ends_after_read feed.Answer feed.Proof old mid new (omega arith) came.only says.1)
+rest_says F witness old mid new answer proof evidence judge (Err (TooLong feed.Witness)) came whole all same decides says =
+    (says.0, ends_after_read feed.Answer feed.Witness old mid new (omega arith) came.only says.1)
 rest_says F witness old mid new answer proof evidence judge (Err Memory) came whole all same decides says = tt
 
 both_came : (witness : Bool) (old mid new : Told) (answer proof evidence : List ℕ) → Came feed.Answer old mid answer → AllCame witness mid new (texts_of [] proof evidence)

@@ -28,18 +28,18 @@ use Rattle.bone_check.specs.Tests.{at_place, ◌then◌, each_from}
 use Rattle.bone_check.specs.Proving.{has_empty, unit_fault}
 use Rattle.bone_check.specs.Verdicts.{unsat_verdict, no_lines, sat_verdict, evidence_verdict}
 use Rattle.bone_check.specs.ProofFeed.{ReadsProof, ProofSays}
-use Rattle.bone_check.specs.Checks.{Texts, Says, is_read, limit_of}
+use Rattle.bone_check.specs.Checks.{Texts, EndsAtFeed, Says, is_read, limit_of}
 use Rattle.bone_check.specs.Steps.Parts.{texts_of, ChecksRest}
 use Rattle.bone_check.specs.Steps.Evidence.{ReadsEvidence, EvidenceSays, IsUnasked, reading_told, IsReadEvidence, JudgesEvidence}
-use Rattle.bone_check.proofs.Gathered.{came_none, all_came, untouched, IsUntouched, Judge, judged_on, fails_in_proof, decided_by_proof, decided_by_both}
+use Rattle.bone_check.proofs.Gathered.{came_none, ends_at_read, ends_after_read, all_came, untouched, IsUntouched, Judge, judged_on, fails_in_proof, decided_by_proof, decided_by_both}
 
 proof_end_says : (F : Cnf) (witness : Bool) (old new : Told) (text : List ℕ) (means : Texts → Verdict) (end : CheckEnd)
-    → ProofSays F old new text (Err end) → Says witness old new (texts_of [] text []) means (Err end)
-proof_end_says F witness old new text means (Fault f) said =
-    subst (λ (x : Feed). IsTrue (is_read witness x) × Rose (Read x) old new) (sym said.0) (refl, said.1.rose)
-proof_end_says F witness old new text means (TooLong f) said =
-    subst (λ (x : Feed). limit_of x < length (texts_of [] text [] x)) (sym said.0) said.1
-proof_end_says F witness old new text means Memory said = tt
+    → EndsAtFeed feed.Proof old new → ProofSays F old new text (Err end) → Says witness old new (texts_of [] text []) means (Err end)
+proof_end_says F witness old new text means (Fault f) behind said =
+    subst (λ (x : Feed). IsTrue (is_read witness x) × Rose (Read x) old new × EndsAtFeed x old new) (sym said.0) (refl, said.1.rose, behind)
+proof_end_says F witness old new text means (TooLong f) behind said =
+    subst (λ (x : Feed). (limit_of x < length (texts_of [] text [] x)) × EndsAtFeed x old new) (sym said.0) (said.1, behind)
+proof_end_says F witness old new text means Memory behind said = tt
 
 -- the proof wasn't read
 pub proof_ends : (F : Cnf) (witness : Bool) (old new : Told) (means : Texts → Verdict) (end : CheckEnd) → ReadsProof F old new (Err end)
@@ -49,7 +49,7 @@ proof_ends F witness old new means end reads = record {
   evidence = [];
   answer_left = reads.came.only.left feed.Answer (λ e. cc e);
   all = all_came witness old old new new [] reads.text [] (came_none feed.Answer old) reads.came (came_none feed.Witness new) (λ isnt. untouched new);
-  says = proof_end_says F witness old new reads.text means end reads.answer;
+  says = proof_end_says F witness old new reads.text means end (ends_at_read feed.Proof old new reads.came.only) reads.answer;
 }
 
 -- one of its lines fails
@@ -87,15 +87,15 @@ asked_at_err true unasked = refl
 asked_at_err false unasked = absurd (true≢false (sym (unasked refl).fine))
 
 evidence_end_says : (F : Cnf) (witness : Bool) (old mid new : Told) (n : ℕ) (proof text : List ℕ) (means : Texts → Verdict) (end : CheckEnd)
-    → mid.faults (Read feed.Witness) ≡ old.faults (Read feed.Witness) → EvidenceSays n witness mid new text (Err end)
-    → witness ≡ true → Says witness old new (texts_of [] proof text) means (Err end)
-evidence_end_says F witness old mid new n proof text means (Fault f) same said asked =
+    → mid.faults (Read feed.Witness) ≡ old.faults (Read feed.Witness) → EndsAtFeed feed.Witness old new
+    → EvidenceSays n witness mid new text (Err end) → witness ≡ true → Says witness old new (texts_of [] proof text) means (Err end)
+evidence_end_says F witness old mid new n proof text means (Fault f) same behind said asked =
     let rose : Rose (Read feed.Witness) old new =
     subst (λ (k : ℕ). k < 2 ^ 64 - 1 → k < new.faults (Read feed.Witness)) same said.1.rose in
-    subst (λ (x : Feed). IsTrue (is_read witness x) × Rose (Read x) old new) (sym said.0) (asked, rose)
-evidence_end_says F witness old mid new n proof text means (TooLong f) same said asked =
-    subst (λ (x : Feed). limit_of x < length (texts_of [] proof text x)) (sym said.0) said.1
-evidence_end_says F witness old mid new n proof text means Memory same said asked = tt
+    subst (λ (x : Feed). IsTrue (is_read witness x) × Rose (Read x) old new × EndsAtFeed x old new) (sym said.0) (asked, rose, behind)
+evidence_end_says F witness old mid new n proof text means (TooLong f) same behind said asked =
+    subst (λ (x : Feed). (limit_of x < length (texts_of [] proof text x)) × EndsAtFeed x old new) (sym said.0) (said.1, behind)
+evidence_end_says F witness old mid new n proof text means Memory same behind said asked = tt
 
 -- the witness wasn't read
 pub evidence_ends : (F : Cnf) (witness : Bool) (old mid new : Told) (n : ℕ) (means : Texts → Verdict) (kept : Kept) (end : CheckEnd)
@@ -106,7 +106,9 @@ evidence_ends F witness old mid new n means kept end reads tells = record {
   answer_left = tells.came.only.left feed.Answer (λ e. cc e) ∙ reads.came.only.left feed.Answer (λ e. cc e);
   all = all_came witness old old mid new [] reads.text tells.text (came_none feed.Answer old) reads.came tells.came (unasked_same tells);
   says = evidence_end_says F witness old mid new n reads.text tells.text means end
-      (reads.came.only.counts.others (Read feed.Witness) (λ e. cc e)) tells.answer (asked_at_err witness tells.unasked);
+      (reads.came.only.counts.others (Read feed.Witness) (λ e. cc e))
+      (ends_after_read feed.Proof feed.Witness old mid new (omega arith) reads.came.only (ends_at_read feed.Witness mid new tells.came.only))
+      tells.answer (asked_at_err witness tells.unasked);
 }
 
 -- both decide

@@ -1,7 +1,7 @@
 -- What came of the three feeds, one after another.
-use Rattle.std.proofs.Common.{◌≡◌, ◌≢◌, ℕ, ◌≤◌, ◌^◌, Bool, true, false, if◌then◌else◌, List, [], ◌++◌, Result, Ok, Err, length, refl, sym, ap, ◌∙◌, subst, arith, append-nil, true≢false}
+use Rattle.std.proofs.Common.{◌≡◌, ◌≢◌, ℕ, ◌<◌, ◌≤◌, ◌^◌, Bool, true, false, if◌then◌else◌, List, [], ◌++◌, Result, Ok, Err, length, refl, sym, ap, ◌∙◌, subst, arith, append-nil, true≢false}
 use Rattle.std.specs.Prelude.{IsTrue, IsFalse, Option, option_map}
-use Rattle.bone_desk.specs.Told.{Told, Took, ReadsOnly}
+use Rattle.bone_desk.specs.Told.{Told, Took, ReadsOnly, feed_index}
 use Rattle.bone_desk.specs.declared.desk.Act.{Act}
 use Rattle.bone_desk.specs.declared.desk.Act.TheVariants.{Read}
 use Rattle.bone_desk.specs.declared.desk.Feed.{Feed}
@@ -21,7 +21,7 @@ use Rattle.bone_check.specs.declared.verdict.Verdict.TheVariants.{NotVerified}
 use Rattle.bone_check.specs.declared.evidence.Evidence.{Evidence}
 use Rattle.bone_check.specs.Verdicts.{proof_reading}
 use Rattle.bone_check.specs.ProofFeed.{IsLeft, IsTaken, IsUntaken}
-use Rattle.bone_check.specs.Checks.{Texts, AllCame, is_read, limit_of, IsVerdict}
+use Rattle.bone_check.specs.Checks.{Texts, AllCame, EndsAtFeed, is_read, limit_of, IsVerdict}
 use Rattle.bone_check.specs.Steps.Parts.{texts_of}
 use Rattle.bone_check.specs.Steps.Evidence.{IsEvidenceOf, reading_told}
 
@@ -34,6 +34,33 @@ took_on f bytes a b c took same = subst (λ (o : Option (List ℕ)). a.left f �
 
 took_later : (f : Feed) (bytes : List ℕ) (a b c : Told) → b.left f ≡ a.left f → Took f bytes b c → Took f bytes a c
 took_later f bytes a b c same took = sym same ∙ took
+
+-- ---- no feed behind the one that was read last
+
+later_feed : (f g : Feed) → feed_index f < feed_index g → g ≢ f
+later_feed f g later same = let places = ap feed_index same in absurd (omega (arith, later, places))
+
+later_read : (f g : Feed) → feed_index f < feed_index g → Read g ≢ Read f
+later_read f g later same = later_feed f g later (same_feed same)
+  where
+    same_feed : Read g ≡ Read f → g ≡ f
+    same_feed is = cc
+
+pub ends_at_read : (f : Feed) (old new : Told) → ReadsOnly f old new → EndsAtFeed f old new
+ends_at_read f old new only = record {
+  left = λ g later. only.left g (later_feed f g later);
+  counts = λ g later. only.counts.others (Read g) (later_read f g later);
+}
+
+-- a feed before it was read first
+pub ends_after_read : (e f : Feed) (old mid new : Told) → feed_index e ≤ feed_index f → ReadsOnly e old mid → EndsAtFeed f mid new
+    → EndsAtFeed f old new
+ends_after_read e f old mid new order only ends = record {
+  left = λ g later. ends.left g later ∙ only.left g (later_feed e g (omega (arith, order, later)));
+  counts = λ g later. ends.counts g later ∙ only.counts.others (Read g) (later_read e g (omega (arith, order, later)));
+}
+
+-- ---- all three together
 
 -- nothing came of a feed, and its count stands
 pub record IsUntouched (c d : Told) (text : List ℕ) : Type 0 where

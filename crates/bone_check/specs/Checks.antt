@@ -1,6 +1,6 @@
 -- What came of the feeds with the answer, the proof and the witness, and what is said of them.
 use Rattle.std.specs.Prelude.{◌≡◌, ℕ, ◌≤◌, ◌<◌, ◌^◌, Bool, true, false, if◌then◌else◌, IsTrue, IsFalse, List, [], ◌++◌, length, Some, Result, Ok, Err}
-use Rattle.bone_desk.specs.Told.{Told, Took, Rose}
+use Rattle.bone_desk.specs.Told.{Told, Took, Rose, feed_index}
 use Rattle.bone_desk.specs.declared.desk.Act.{Act}
 use Rattle.bone_desk.specs.declared.desk.Act.TheVariants.{Read}
 use Rattle.bone_desk.specs.declared.desk.Feed.{Feed}
@@ -48,11 +48,16 @@ pub record IsVerdict (new : Told) (came : Texts) (means : Texts → Verdict) (ve
   pub within : (f : Feed) → length (came f) ≤ limit_of f
   pub whole : (rest : Texts) → AllLeft new rest → means (λ f. came f ++ rest f) ≡ verdict
 
+-- no feed behind this one was read
+pub record EndsAtFeed (f : Feed) (old new : Told) : Type 0 where
+  pub left : (g : Feed) → feed_index f < feed_index g → new.left g ≡ old.left g
+  pub counts : (g : Feed) → feed_index f < feed_index g → new.faults (Read g) ≡ old.faults (Read g)
+
 -- what each answer says of what came
 abbrev pub Says : Bool → Told → Told → Texts → (Texts → Verdict) → Result Verdict CheckEnd → Type 0
 Says witness old new came means (Ok verdict) = IsVerdict new came means verdict
-Says witness old new came means (Err (Fault f)) = IsTrue (is_read witness f) × Rose (Read f) old new
-Says witness old new came means (Err (TooLong f)) = limit_of f < length (came f)
+Says witness old new came means (Err (Fault f)) = IsTrue (is_read witness f) × Rose (Read f) old new × EndsAtFeed f old new
+Says witness old new came means (Err (TooLong f)) = (limit_of f < length (came f)) × EndsAtFeed f old new
 Says witness old new came means (Err Memory) = Unit {0}
 
 pub record ChecksBy (witness : Bool) (old new : Told) (means : Texts → Verdict) (result : Result Verdict CheckEnd) : Type 0 where

@@ -27,7 +27,7 @@ use std::alloc::Global;
 /// literals of the clauses that hints name, and for each model in the formula.
 ///
 /// `Fault` comes only where a read of that feed failed, and `TooLong` exactly where more bytes came of it than 2^27 of
-/// an answer and 2^45 of a proof or a witness.
+/// an answer and 2^45 of a proof or a witness. The feeds behind that one were not read then.
 pub fn check_all<D: Desk>(
     alloc: Global,
     formula: &Formula,
