@@ -223,6 +223,7 @@ fn a_budget_of_one_clause_is_spent(rt: HostRuntime) -> Result<(), Fail> {
     let findings = run_alone(alloc, &formula, 15, ENOUGH)?;
     assert_eq!(rt; findings.end, End::Done);
     assert_eq!(rt; fixes(alloc, &findings)?.as_slice(), [4].as_slice());
+    assert!(rt; findings.decisions > 0);
     Ok(())
 }
 
