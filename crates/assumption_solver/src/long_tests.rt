@@ -1,4 +1,6 @@
 //! Queries of many conflicts, and of several assumptions that are false at once.
+ghost use Rattle.std.specs.Prelude.{◌<◌, ◌≤◌};
+
 use crate::tests::{Steady, ask, check, literals, name};
 use crate::{Found, Progress, Solver};
 use chooser_core::Chooser;
@@ -8,6 +10,9 @@ use samples::Draws;
 use std::alloc::Global;
 use std::boxed::Box;
 use std::test::Fail;
+
+/// More learnt clauses than a query here needs.
+const BUDGET: u64 = 100_000;
 
 /// The literal that says that a pigeon sits in a hole, one of at most five.
 fn sits(pigeon: u32, hole: u32) -> Lit
@@ -67,7 +72,7 @@ fn six_pigeons_have_no_place_in_five_holes_and_the_log_shows_it(
     let mut chooser = in_order(alloc)?;
     let mut solver = Solver::new(alloc, &formula)?;
     solver.begin(&mut chooser);
-    let ended = solver.go_on(&[], &[], &mut chooser, 100_000, 100_000);
+    let ended = solver.go_on(&[], &[], &mut chooser, BUDGET, BUDGET);
     assert!(rt; matches!(&ended, Progress::Found(Found::Unsat { .. })));
     let log = solver.into_log();
     assert!(rt; log.count_learnt() > 20);
@@ -90,6 +95,21 @@ fn drawn(alloc: Global) -> Result<Formula, Fail> {
     Ok(formula)
 }
 
+/// How often clauses were removed, behind so many conflicts more.
+fn removals_behind(
+    solver: &mut Solver,
+    chooser: &mut Box<dyn Chooser>,
+    conflicts: u64,
+) -> Result<u64, Fail> {
+    if solver.log().count_learnt() > BUDGET {
+        return Err(Fail::from("more clauses than the budget"));
+    }
+    match solver.go_on(&[], &[], chooser, BUDGET, conflicts) {
+        Progress::Paused => Ok(solver.counts().removals),
+        Progress::Found(_) => Err(Fail::from("an answer")),
+    }
+}
+
 #[test]
 fn a_long_query_removes_clauses_behind_1000_3000_and_7000(rt: HostRuntime) -> Result<(), Fail> {
     let alloc = rt.alloc();
@@ -99,9 +119,7 @@ fn a_long_query_removes_clauses_behind_1000_3000_and_7000(rt: HostRuntime) -> Re
     solver.begin(&mut chooser);
     let mut removals = Vec::new(alloc);
     for slice in [999, 1, 1_999, 1, 3_999, 1] {
-        let paused = solver.go_on(&[], &[], &mut chooser, 100_000, slice);
-        assert!(rt; matches!(&paused, Progress::Paused));
-        removals.push(solver.counts().removals)?;
+        removals.push(removals_behind(&mut solver, &mut chooser, slice)?)?;
     }
     assert_eq!(rt; removals.as_slice(), [0, 1, 1, 2, 2, 3].as_slice());
     check(alloc, &formula, solver.log())?;

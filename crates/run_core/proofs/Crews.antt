@@ -50,20 +50,6 @@ first_ready b a workers budget s w v about root number new sits later same store
       },
     )
 
--- the worker that is called to a seat
-pub called_to : {X : Type 0} {P : X → Type 0} (b : Board) (workers budget n : ℕ) (slots : List (Slot X P)) (d slot : Slot X P) (r : Recruit X P)
-    → IsHiring b workers budget n slots → n < workers → slot ≡ slice_index_or slots n d → slot ≡ Left r.seat
-    → r.share.number ≡ n → r.share.workers ≡ workers → r.share.budget ≡ budget → 1 ≤ budget → budget ≤ 1099511627776
-    → IsStaffed b budget n (Called r)
-called_to {X} {P} b workers budget n slots d slot r old high here left number among limit some most = record {
-  number = number;
-  among = omega (arith, among);
-  budget = limit;
-  some = some;
-  most = most;
-  left = subst (λ (s : Slot X P). IsVacant b n s) (sym here ∙ left) (old.seats.vacant n d (omega arith) high);
-}
-
 -- the first worker in its slot
 pub hiring_first : {X : Type 0} {P : X → Type 0} (b : Board) (workers budget : ℕ) (slots : List (Slot X P)) (w : _) → 1 ≤ workers
     → AreVacant b workers 1 workers slots → IsReady b budget 0 w → IsAtRoot b.about workers w

@@ -3,7 +3,7 @@ ghost use Rattle.std.specs.Prelude.{◌≡◌, ◌+◌, ◌^◌, ◌<◌, ◌≤
 ghost use Rattle.std.specs.Vec.Iter.{into_iter_len};
 ghost use Rattle.cnf_core.specs.Formulas.{IsModel};
 ghost use Rattle.worker_loop.specs.Posts.{IsFirst};
-ghost use Rattle.run_core.specs.Steps.Crews.{IsRootAt, IsAtRoot, IsReady, AreVacant, IsHiring, IsCrew, IsReturned};
+ghost use Rattle.run_core.specs.Steps.Crews.{IsRootAt, IsAtRoot, IsReady, IsVacant, IsStaffed, AreVacant, IsHiring, IsCrew, IsReturned};
 
 use crate::RunSettings;
 use crate::slot::{Recruit, Slot, run_in_turn, run_on_threads};
@@ -150,13 +150,8 @@ impl<'f, 'r> Crew<'f, 'r> {
             seed: self.settings.seed,
         };
         let slot = &mut self.slots[number as usize];
-        if let Slot::Left(seat) = mem::replace(slot, Slot::Empty) {
-            *slot = Slot::Called(Recruit {
-                share,
-                seat,
-                chooser,
-            });
-        }
+        let vacant = mem::replace(slot, Slot::Empty);
+        *slot = called(&self.words, share, vacant, chooser);
     }
 
     /// Runs all workers, one after another.
@@ -206,4 +201,26 @@ fn split_seats<'f, 'r>(
         slots.push(Slot::Left(words.split(root)))?;
     }
     Ok(())
+}
+
+/// A worker that is called to the seat in a slot.
+fn called<'f, 'r>(
+    words: &Words,
+    share: Share,
+    slot: Slot<'f, 'r>,
+    chooser: Box<dyn Chooser>,
+) -> Slot<'f, 'r>
+    requires number { share.number < share.workers }
+    requires budget { (1 ≤ share.budget) × (share.budget ≤ 2 ^ 40) }
+    requires vacant { IsVacant words.now share.number slot }
+    ensures { IsStaffed words.now share.budget share.number result }
+{
+    match slot {
+        Slot::Left(seat) => Slot::Called(Recruit {
+            share,
+            seat,
+            chooser,
+        }),
+        Slot::Ready(_) | Slot::Called(_) | Slot::Done(_) | Slot::Empty => unreachable!(),
+    }
 }
