@@ -2,14 +2,13 @@
 use Rattle.std.proofs.Common.{◌≡◌, ℕ, List, sym, ap, subst}
 use Rattle.board_core.specs.Subjects.{About}
 use Rattle.board_core.specs.Rules.{AreWords}
-use Rattle.assumption_solver.specs.SolverStates.{SolverState}
 use Rattle.model_store.specs.Stores.{Store}
 use Rattle.worker_loop.specs.declared.post.Post.{Post}
 use Rattle.worker_loop.specs.Evidence.{IsSettled}
 use Rattle.worker_loop.specs.Steps.Held.{IsPost}
-use Rattle.worker_loop.specs.Steps.Moves.{IsOnward, IsHearing, KeepsSettled}
-use Rattle.worker_loop.proofs.Onward.{onward_hearing}
-use Rattle.worker_loop.proofs.Turning.{settled_later}
+use Rattle.worker_loop.specs.Steps.Moves.{IsOnward, IsHearing, IsUnmoved, KeepsSettled}
+use Rattle.worker_loop.proofs.Onward.{onward_hearing, onward_trans}
+use Rattle.worker_loop.proofs.Turning.{settled_later, unmoved_onward}
 
 pub settled_hearing : (p q : Post) → IsPost q → IsHearing p q → q.models ≡ p.models → KeepsSettled p q
 settled_hearing p q post onward same settled =
@@ -23,6 +22,6 @@ settled_hearing p q post onward same settled =
 pub settled_onward : (p q : Post) → IsPost q → IsOnward p q → q.models ≡ p.models → KeepsSettled p q
 settled_onward p q post onward same settled = settled_hearing p q post (onward_hearing p q onward) same settled
 
--- a solver that is the same makes the same post
-pub onward_from : (p q : Post) (s : SolverState) → s ≡ p.solver → IsOnward (record p { solver = s }) q → IsOnward p q
-onward_from p q s same onward = subst (λ (t : SolverState). IsOnward (record p { solver = t }) q) same onward
+-- a step from where nothing had changed
+pub onward_from : (p r q : Post) → IsUnmoved p r → IsOnward r q → IsOnward p q
+onward_from p r q same onward = onward_trans p r q (unmoved_onward p r same) onward

@@ -3,6 +3,7 @@ use Rattle.std.proofs.Common.{◌≡◌, ℕ, ◌+◌, ◌-◌, ◌<◌, ◌≤�
 use Rattle.std.proofs.lemmas.List.{append-nil}
 use Rattle.std.proofs.lemmas.List.Elements.{All-nil, All-append, All-weaker}
 use Rattle.lrat_log.specs.Entries.{Entry, Recorded, is_import, learnt_count}
+use Rattle.lrat_log.specs.Laws.{learning_queries}
 use Rattle.cnf_core.specs.Literals.{AreWithin, Literals}
 use Rattle.board_core.specs.Subjects.{About, groups}
 use Rattle.candidate_words.specs.Seats.{Board, Sitter, Sits}
@@ -15,11 +16,12 @@ use Rattle.assumption_solver.specs.declared.found.Progress.TheVariants.{Found as
 use Rattle.worker_loop.specs.declared.post.Post.{Post}
 use Rattle.worker_loop.specs.Posts.{IsLonger}
 use Rattle.worker_loop.specs.Steps.Held.{IsPost}
-use Rattle.worker_loop.specs.Steps.Moves.{IsOnward, IsAskedTimes}
+use Rattle.worker_loop.specs.Steps.Moves.{IsOnward, IsAskedTimes, IsLooking, IsUnmoved}
 use Rattle.worker_loop.proofs.Grown.{longer_continued, longer_queried, clocked_continued, clocked_queried}
 use Rattle.worker_loop.proofs.Imports.{post_moved}
 use Rattle.worker_loop.proofs.Onward.{seen_refl, onward_refl, onward_trans}
-use Rattle.worker_loop.proofs.Queries.{asked_once}
+use Rattle.worker_loop.proofs.Queries.{asked_once, asked_after, asked_same, same_queries}
+use Rattle.worker_loop.proofs.Turning.{unmoved_onward, learnt_longer}
 
 pub continued_refl : (L : Recorded) → IsContinued L L
 continued_refl L = record {
@@ -119,6 +121,12 @@ pub record IsAsking (b : Board) (p q : Post) : Type 0 where
   pub models : q.models ≡ p.models
   pub log : IsContinued p.solver.log q.solver.log
 
+-- and between two of them, of which the next has so many conflicts
+pub record IsSlicing (b : Board) (p q : Post) (conflicts : ℕ) : Type 0 where
+  pub asking : IsAsking b p q
+  pub some : 1 ≤ conflicts
+  pub most : conflicts ≤ 1000
+
 pub asking_refl : (b : Board) (p : Post) → IsPost p → Sits b p.seat → IsAsking b p p
 asking_refl b p post sits = record { post = post; sits = sits; onward = onward_refl p; models = refl; log = continued_refl p.solver.log }
 
@@ -146,21 +154,81 @@ pub within_onward : (p q : Post) (ls : Literals) → IsOnward p q → AreWithin 
     → AreWithin q.question.now.formula.vars ls
 within_onward p q ls onward within = subst (λ (a : About). AreWithin a.formula.vars ls) (sym onward.question) within
 
+-- the seat stays where it is
+pub sits_sliced : (b : Board) (q r : Post) → Sits b q.seat → r.seat ≡ q.seat → Sits b r.seat
+sits_sliced b q r sits same = subst (λ (s : Sitter). Sits b s) (sym same) sits
+
+-- help moves nothing
+pub asking_unmoved : (b : Board) (p q r : Post) → IsAsking b p q → IsPost r → IsUnmoved q r → IsAsking b p r
+asking_unmoved b p q r before post same =
+    asking_closed b p q r before post (sits_sliced b q r before.sits same.seat) (unmoved_onward q r same) same.models same.solver
+
 -- a slice without an answer learnt what it may
 pub paused : (r : Progress) (assume chunk : Literals) (budget stop : ℕ) (L : Recorded) → ProgressSays r assume chunk budget stop L
     → ((f : Found) → r ≡ Ended f → ⊥) → (learnt_count L.entries ≡ stop) × (stop < budget)
 paused (Ended f) assume chunk budget stop L says none = absurd (none f refl)
 paused Paused assume chunk budget stop L says none = says
 
--- one slice more
-pub sits_sliced : (b : Board) (q r : Post) → Sits b q.seat → r.seat ≡ q.seat → Sits b r.seat
-sits_sliced b q r sits same = subst (λ (s : Sitter). Sits b s) (sym same) sits
-
 pub fewer_left : (q r s : Post) → r.solver ≡ q.solver → r.budget ≡ q.budget → q.budget ≡ s.budget
-    → (learnt_count q.solver.log.entries ≡ learnt_count s.solver.log.entries + 1000)
-    → learnt_count s.solver.log.entries + 1000 < q.budget
+    → (conflicts : ℕ) → 1 ≤ conflicts → (learnt_count q.solver.log.entries ≡ learnt_count s.solver.log.entries + conflicts)
+    → learnt_count s.solver.log.entries + conflicts < q.budget
     → r.budget - learnt_count r.solver.log.entries < s.budget - learnt_count s.solver.log.entries
-fewer_left q r s solver budget before learnt low =
+fewer_left q r s solver budget before conflicts some learnt low =
     let same : learnt_count r.solver.log.entries ≡ learnt_count q.solver.log.entries =
     ap (λ (t : SolverState). learnt_count t.log.entries) solver in
-    omega (arith, same, budget, before, learnt, low)
+    omega (arith, same, budget, before, some, learnt, low)
+
+-- a query that learnt nothing
+pub asked_none : (L M : Recorded) → IsQueried L M → learnt_count M.entries ≡ learnt_count L.entries → IsAskedTimes 0 L M
+asked_none L M is same =
+    let queries : learning_queries M.entries ≡ learning_queries L.entries =
+    ap learning_queries is.entries ∙ same_queries L.entries is.more (sym (ap learnt_count is.entries) ∙ same) in
+    record { most = omega (arith, queries); none = λ _. queries }
+
+-- looks one after another
+pub looking_refl : (p : Post) → IsPost p → IsLooking p p
+looking_refl p post = record {
+  post = post;
+  seat = refl;
+  onward = onward_refl p;
+  models = refl;
+  asked = asked_same p.solver.log p.solver.log refl;
+  learnt = refl;
+}
+
+pub looking_next : (p q r : Post) → IsLooking p q → IsLooking q r → IsLooking p r
+looking_next p q r one two = record {
+  post = two.post;
+  seat = two.seat ∙ one.seat;
+  onward = onward_trans p q r one.onward two.onward;
+  models = two.models ∙ one.models;
+  asked = asked_after 0 0 p.solver.log q.solver.log r.solver.log (omega (arith, one.learnt)) (omega (arith, two.learnt)) one.asked two.asked;
+  learnt = two.learnt ∙ one.learnt;
+}
+
+pub looking_unmoved : (p q r : Post) → IsLooking p q → IsPost r → IsUnmoved q r → IsLooking p r
+looking_unmoved p q r one post same = record {
+  post = post;
+  seat = same.seat ∙ one.seat;
+  onward = onward_trans p q r one.onward (unmoved_onward q r same);
+  models = same.models ∙ one.models;
+  asked = subst (λ (s : SolverState). IsAskedTimes 0 p.solver.log s.log) (sym same.solver) one.asked;
+  learnt = ap (λ (s : SolverState). learnt_count s.log.entries) same.solver ∙ one.learnt;
+}
+
+-- a query of which only what needs no conflict was looked at
+pub looked : (p q : Post) (s : SolverState) → IsQueried p.solver.log s.log → learnt_count s.log.entries ≡ learnt_count p.solver.log.entries
+    → IsPost q → q.seat ≡ p.seat → IsOnward (record p { solver = s }) q → q.models ≡ p.models → IsContinued s.log q.solver.log
+    → learnt_count q.solver.log.entries ≤ learnt_count s.log.entries + 0 → IsLooking p q
+looked p q s queried count post seat onward models log most =
+    let all : IsOnward p q = onward_trans p (record p { solver = s }) q (onward_queried p s queried) onward in
+    let learnt : learnt_count q.solver.log.entries ≡ learnt_count p.solver.log.entries =
+    omega (arith, count, most, learnt_longer p.solver.log q.solver.log all.log) in
+    record {
+      post = post;
+      seat = seat;
+      onward = all;
+      models = models;
+      asked = asked_none p.solver.log q.solver.log (queried_continued p.solver.log s.log q.solver.log queried log) learnt;
+      learnt = learnt;
+    }

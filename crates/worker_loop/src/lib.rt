@@ -8,6 +8,7 @@
 #![tactic(auto)]
 
 mod asking;
+mod choosing;
 mod dropping;
 mod endings;
 mod findings;
@@ -16,8 +17,10 @@ mod gate;
 mod jumping;
 mod loading;
 mod masks;
+mod pace;
 mod post;
 mod question;
+mod terrain;
 #[cfg(test)]
 mod tests;
 mod tools;

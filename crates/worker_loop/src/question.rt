@@ -89,8 +89,14 @@ impl<'f> Question<'f> {
         Walker::new(alloc, self.formula())
     }
 
-    /// Turns candidates in a model, as [`Walker::walk`] does.
-    pub(crate) fn walk(&self, walker: &mut Walker, model: &mut Values, candidates: &[u32]) -> bool
+    /// Turns candidates in a model, as [`Walker::walk`] does, or leaves it as it is.
+    pub(crate) fn walk(
+        &self,
+        walker: &mut Walker,
+        model: &mut Values,
+        candidates: &[u32],
+        moves: bool,
+    ) -> bool
         requires vars { walker.old ≡ self.now.formula.vars }
         requires model { IsModel self.now.formula model.old }
         requires candidates { AreVars self.now.formula.vars candidates.now }
@@ -98,7 +104,7 @@ impl<'f> Question<'f> {
         ensures walked { IsWalked (listing_of self.now) candidates.now model.old model.new }
         ensures rest { IsTrue result → IsAtRest (listing_of self.now) candidates.now model.new }
     {
-        walker.walk(&self.occurrences, model, candidates)
+        moves && walker.walk(&self.occurrences, model, candidates)
     }
 
     /// Whether the flip of a variable that keeps its phase in the model is no model.

@@ -18,6 +18,7 @@ use crate::asking::Asked;
 use crate::dropping::Flips;
 use crate::masks::group_of;
 use crate::post::Post;
+use crate::terrain::prefer_values;
 use assumption_solver::{Found, Solver};
 use candidate_words::Words;
 use chooser_core::Chooser;
@@ -32,7 +33,7 @@ pub(crate) const BLOCK: u32 = 256;
 const DOSE: u32 = 1024;
 
 /// A jump is tried over at most so many open candidates.
-const MOST_LEFT: u32 = 512;
+const MOST_LEFT: usize = 512;
 
 impl<'f, 'r> Post<'f, 'r> {
     /// Takes a turn.
@@ -58,21 +59,21 @@ impl<'f, 'r> Post<'f, 'r> {
         }
         self.begin_behind(&block);
         self.hear(words)?;
-        self.work(words, &block, chooser)
+        self.work(words, block, chooser)
     }
 
     /// The first open candidates of the loaded words, at most so many, with the groups taken from this one on.
-    fn open_block(&self, from: u32, size: u32) -> Result<Vec<u32>, NoMemory>
+    pub fn open_block(&self, from: u32, size: u32) -> Result<Vec<u32>, NoMemory>
         requires post { IsPost self.now }
         requires copied { IsLoaded self.now }
         requires from { from < groups self.now.question.now.formula.vars }
         ensures { IfOk result (λ block. IsBlockOf self.now.loaded.items self.now.question.now.formula.vars size block.items) }
     {
-        first_open(self.alloc, &self.loaded, from, size)
+        open_from(self.alloc, &self.loaded, from, size)
     }
 
     /// The next block begins at the group of this one's last variable.
-    fn begin_behind(&mut self, block: &[u32])
+    pub fn begin_behind(&mut self, block: &[u32])
         requires post { IsPost self.old }
         requires block { All (λ x. (0 < x) × (x ≤ self.old.question.now.formula.vars)) block.now }
         ensures post { IsPost self.new }
@@ -84,8 +85,33 @@ impl<'f, 'r> Post<'f, 'r> {
         self.first_group = group_of(*last);
     }
 
-    /// Asks whether all of the block can be against their phases, and goes on by the answer.
+    /// Works on the block, or on another one.
     fn work(
+        &mut self,
+        words: &Words,
+        block: Vec<u32>,
+        chooser: &mut Box<dyn Chooser>,
+    ) -> Result<TurnEnd, NoMemory>
+        requires post { IsPost self.old }
+        requires sits { Sits words.now self.old.seat }
+        requires copied { IsLoaded self.old }
+        requires block { IsBlockOf self.old.loaded.items self.old.question.now.formula.vars 256 block.items }
+        requires some { 0 < length block.items }
+        requires room { length self.old.models.models < 2 ^ 26 }
+        ensures post { IsPost self.new }
+        ensures sits { Sits words.now self.new.seat }
+        ensures onward { IsOnward self.old self.new }
+        ensures asked { IsAskedTimes 2 self.old.solver.log self.new.solver.log }
+        ensures stored { HasStored self.old.models self.new.models }
+        ensures follows { IfOk result (λ end. Follows end self.new) }
+        ensures settled { OnOk result (KeepsSettled self.old self.new) }
+    {
+        let block = self.choose_block(block, chooser)?;
+        self.work_on(words, &block, chooser)
+    }
+
+    /// Asks whether all of the block can be against their phases, and goes on by the answer.
+    fn work_on(
         &mut self,
         words: &Words,
         block: &[u32],
@@ -122,7 +148,7 @@ impl<'f, 'r> Post<'f, 'r> {
     }
 
     /// The literals of the block's variables that are opposite to their phases.
-    fn against(&self, block: &[u32]) -> Result<Vec<Lit>, NoMemory>
+    pub fn against(&self, block: &[u32]) -> Result<Vec<Lit>, NoMemory>
         requires post { IsPost self.now }
         requires block { All (λ x. (0 < x) × (x ≤ self.now.question.now.formula.vars)) block.now }
         ensures { IfOk result (λ lits. lits.items ≡ map (against_phase self.now.question.now.phases) block.now) }
@@ -146,6 +172,7 @@ impl<'f, 'r> Post<'f, 'r> {
         let dose = self.against(&candidates)?;
         prefer_all(&mut self.solver, &dose);
         prefer_all(&mut self.solver, lits);
+        self.jumper.begin_core_query(&self.solver, lits.len());
         Ok(())
     }
 
@@ -169,10 +196,11 @@ impl<'f, 'r> Post<'f, 'r> {
         ensures settled { OnOk result (KeepsSettled self.old self.new) }
     {
         let candidates = self.open_block(0, self.question.formula().vars())?;
+        let moves = !self.jumper.is_in_zone();
         let mut model = model;
         let rests = self
             .question
-            .walk(&mut self.walker, &mut model, &candidates);
+            .walk(&mut self.walker, &mut model, &candidates, moves);
         if let Some(better) = self.jump(&model, &candidates, core) {
             return self.absorb(words, &better, Flips::Listed);
         }
@@ -193,10 +221,11 @@ impl<'f, 'r> Post<'f, 'r> {
         ensures model { IfSome result (IsModel self.old.question.now.formula) }
         ensures serves { IfSome result (Serves self.old core.now) }
     {
-        if !self.leaves_few(model, candidates) {
+        let left = self.count_left(model, candidates);
+        if left == 0 || left > MOST_LEFT {
             return None;
         }
-        if !self.jumper.is_due(&self.solver) {
+        if !self.jumper.is_due(&self.solver, left) {
             return None;
         }
         let Ok(wanted) = self.against(candidates) else {
@@ -206,22 +235,19 @@ impl<'f, 'r> Post<'f, 'r> {
             .jump(self.alloc, &mut self.solver, model, &wanted, core)
     }
 
-    /// Whether some of the candidates keep their phases in a model, and few of them.
-    fn leaves_few(&self, model: &Values, candidates: &[u32]) -> bool
+    /// How many of the candidates keep their phases in a model.
+    fn count_left(&self, model: &Values, candidates: &[u32]) -> usize
         requires post { IsPost self.now }
         requires model { length model.now ≡ self.now.question.now.formula.vars }
         requires candidates { All (λ x. (0 < x) × (x ≤ self.now.question.now.formula.vars)) candidates.now }
     {
-        let mut left: u32 = 0;
+        let mut left: usize = 0;
         for var in candidates {
             if !self.is_against(model, *var) {
                 left = left.saturating_add(1);
             }
-            if left > MOST_LEFT {
-                return false;
-            }
         }
-        left > 0
+        left
     }
 
     /// Fixes a core of one literal. Of a core of more it asks for a model in which one of them is false.
@@ -269,6 +295,40 @@ impl<'f, 'r> Post<'f, 'r> {
         self.fix_all(words, core);
     }
 
+    /// From here on the solver decides the variables of a core against it. In the zone of the last candidates it goes on by
+    /// the signs of a model that differs little from the last one but splits the core, so that few are dropped by it and
+    /// the next block still has a core that is easily found.
+    fn prefer_split(&mut self, core: &[Lit])
+        requires post { IsPost self.old }
+        requires core { AreWithin self.old.question.now.formula.vars core.now }
+        ensures post { IsPost self.new }
+        ensures same { IsUnmoved self.old self.new }
+    {
+        prefer_against(&mut self.solver, core);
+        if self.jumper.begin_split(&self.solver) {
+            self.step(core);
+        }
+    }
+
+    /// Has the solver go on by the signs of a model that splits the core, where a search from the last model finds one, or
+    /// else by those of the last model.
+    fn step(&mut self, core: &[Lit])
+        requires post { IsPost self.old }
+        requires core { AreWithin self.old.question.now.formula.vars core.now }
+        ensures post { IsPost self.new }
+        ensures same { IsUnmoved self.old self.new }
+    {
+        let Ok(start) = self.recent_model() else {
+            return;
+        };
+        let Some(lit) = self.first_unfixed(core) else {
+            return;
+        };
+        if !self.jumper.step(self.alloc, &mut self.solver, &start, lit) {
+            prefer_values(&mut self.solver, &start);
+        }
+    }
+
     /// Asks for a model in which some literal of a core is false, and fixes all of them where there is none.
     fn split_core(
         &mut self,
@@ -289,7 +349,7 @@ impl<'f, 'r> Post<'f, 'r> {
         ensures follows { IfOk result (λ end. Follows end self.new) }
         ensures settled { OnOk result (KeepsSettled self.old self.new) }
     {
-        prefer_against(&mut self.solver, core);
+        self.prefer_split(core);
         match self.ask(words, &[], core, chooser) {
             Asked::Closed => Ok(TurnEnd::Going),
             Asked::Answered(Found::Model(model)) => {
@@ -309,7 +369,7 @@ impl<'f, 'r> Post<'f, 'r> {
 }
 
 /// The first open candidates of the words.
-fn first_open(alloc: Global, words: &[u64], from: u32, size: u32) -> Result<Vec<u32>, NoMemory>
+fn open_from(alloc: Global, words: &[u64], from: u32, size: u32) -> Result<Vec<u32>, NoMemory>
     requires words { length words.now ≤ 2 ^ 15 }
     requires from { from < length words.now }
     ensures { IfOk result (λ block. IsBlockOfAll words.now size block.items) }

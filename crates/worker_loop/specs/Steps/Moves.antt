@@ -127,6 +127,15 @@ pub record HasListened (b : Board) (p q : Post) : Type 0 where
   pub seen : q.seat.view.seen ≡ p.seat.view.seen
   pub asked : IsAskedTimes 0 p.solver.log q.solver.log
 
+-- looks at blocks, by which nothing is learnt and nothing closed
+pub record IsLooking (p q : Post) : Type 0 where
+  pub post : IsPost q
+  pub seat : q.seat ≡ p.seat
+  pub onward : IsOnward p q
+  pub models : q.models ≡ p.models
+  pub asked : IsAskedTimes 0 p.solver.log q.solver.log
+  pub learnt : learnt_count q.solver.log.entries ≡ learnt_count p.solver.log.entries
+
 -- nothing changes but the group of the next block
 pub record IsUnmoved (p q : Post) : Type 0 where
   pub question : q.question.now ≡ p.question.now

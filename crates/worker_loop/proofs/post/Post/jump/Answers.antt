@@ -7,8 +7,8 @@ use Rattle.worker_loop.proofs.Blocked.{within_against}
 use Rattle.worker_loop.proofs.Landed.{landing_serves}
 use Rattle.worker_loop.proofs.post.Post.jump.Goals as goal
 
-pub leaves_few-requires-clause-candidates : goal.leaves_few-requires-clause-candidates
-leaves_few-requires-clause-candidates c =
+pub count_left-left-requires-clause-candidates : goal.count_left-left-requires-clause-candidates
+count_left-left-requires-clause-candidates c =
     let p = c.args.self.now in
     block_within p.loaded.items c.args.candidates.now p.question.now.formula.vars p.question.now.formula.vars c.requires.candidates
 

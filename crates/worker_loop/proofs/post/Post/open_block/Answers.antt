@@ -6,11 +6,11 @@ use Rattle.core_chunks.specs.Chunks.{IsBlockOf}
 use Rattle.worker_loop.proofs.Words.{none_past}
 use Rattle.worker_loop.proofs.post.Post.open_block.Goals as goal
 
-pub first_open-requires-clause-words : goal.first_open-requires-clause-words
-first_open-requires-clause-words c = omega (arith, c.requires.post.loaded, c.requires.post.limit)
+pub open_from-requires-clause-words : goal.open_from-requires-clause-words
+open_from-requires-clause-words c = omega (arith, c.requires.post.loaded, c.requires.post.limit)
 
-pub first_open-requires-clause-from : goal.first_open-requires-clause-from
-first_open-requires-clause-from c = omega (arith, c.requires.post.loaded, c.requires.from)
+pub open_from-requires-clause-from : goal.open_from-requires-clause-from
+open_from-requires-clause-from c = omega (arith, c.requires.post.loaded, c.requires.from)
 
 pub returns : goal.returns
 returns c =
@@ -18,6 +18,6 @@ returns c =
     let words : AreWords a c.args.self.now.loaded.items =
     subst (λ (us : List ℕ). AreWords a us) (sym c.requires.copied) c.requires.post.view.loaded in
     let past : (x : ℕ) → a.formula.vars < x → open_at c.args.self.now.loaded.items x ≡ 0 = none_past a c.args.self.now.loaded.items words in
-    IfOk-weaker c.first_open.result _ _ (λ found is.
+    IfOk-weaker c.open_from.result _ _ (λ found is.
     subst (λ (us : List ℕ). IsBlockOf us a.formula.vars c.args.size found.items) c.deref.ensures.value (is a.formula.vars (λ x high.
-    subst (λ (us : List ℕ). open_at us x ≡ 0) (sym c.deref.ensures.value) (past x high)))) c.first_open.ensures
+    subst (λ (us : List ℕ). open_at us x ≡ 0) (sym c.deref.ensures.value) (past x high)))) c.open_from.ensures

@@ -12,73 +12,79 @@ use Rattle.worker_loop.proofs.Settling.{settled_onward, onward_from}
 use Rattle.worker_loop.proofs.post.Post.split_core.Goals as goal
 
 pub ask-requires-clause-chunk : goal.ask-requires-clause-chunk
-ask-requires-clause-chunk g c = within_core c.args.self.now c.args.core.now c.requires.post c.requires.copied c.requires.core.were_open
+ask-requires-clause-chunk g c =
+    subst (λ (a : About). AreWithin a.formula.vars c.args.core.now) (sym c.prefer_split.ensures.same.question)
+    (within_core c.args.self.now c.args.core.now c.requires.post c.requires.copied c.requires.core.were_open)
+
+pub prefer_split-requires-clause-core : goal.prefer_split-requires-clause-core
+prefer_split-requires-clause-core g c =
+    within_core c.args.self.now c.args.core.now c.requires.post c.requires.copied c.requires.core.were_open
 
 pub fix_all-requires-clause-shown : goal.fix_all-requires-clause-shown
 fix_all-requires-clause-shown g c =
-    let onward = onward_from c.args.self.now c.ask.new.self c.prefer_against.new.solver c.prefer_against.ensures c.ask.ensures.onward in
+    let onward = onward_from c.args.self.now c.prefer_split.new.self c.ask.new.self c.prefer_split.ensures.same c.ask.ensures.onward in
     subst (λ (a : About). All (λ l. candidate a.formula l.var ≡ 1) c.args.core.now) (sym onward.question)
     (shown_core c.args.self.now c.args.core.now c.requires.post c.requires.copied c.requires.core.were_open)
 
 pub returns-in-Closed-clause-follows : goal.returns-in-Closed-clause-follows
 returns-in-Closed-clause-follows g c =
-    let onward = onward_from c.args.self.now c.ask.new.self c.prefer_against.new.solver c.prefer_against.ensures c.ask.ensures.onward in
+    let onward = onward_from c.args.self.now c.prefer_split.new.self c.ask.new.self c.prefer_split.ensures.same c.ask.ensures.onward in
     goes_all c.args.self.now c.ask.new.self c.args.core.now c.requires.post c.requires.copied onward c.requires.core c.in-Closed.ensures.says.1
 
 pub returns-in-Closed-clause-settled : goal.returns-in-Closed-clause-settled
 returns-in-Closed-clause-settled g c =
-    let onward = onward_from c.args.self.now c.ask.new.self c.prefer_against.new.solver c.prefer_against.ensures c.ask.ensures.onward in
-    settled_onward c.args.self.now c.ask.new.self c.ask.ensures.post onward c.ask.ensures.models
+    let onward = onward_from c.args.self.now c.prefer_split.new.self c.ask.new.self c.prefer_split.ensures.same c.ask.ensures.onward in
+    settled_onward c.args.self.now c.ask.new.self c.ask.ensures.post onward (c.ask.ensures.models ∙ c.prefer_split.ensures.same.models)
 
 pub returns-in-Answered-AllFixed-clause-onward : goal.returns-in-Answered-AllFixed-clause-onward
 returns-in-Answered-AllFixed-clause-onward g c =
-    let onward = onward_from c.args.self.now c.ask.new.self c.prefer_against.new.solver c.prefer_against.ensures c.ask.ensures.onward in
+    let onward = onward_from c.args.self.now c.prefer_split.new.self c.ask.new.self c.prefer_split.ensures.same c.ask.ensures.onward in
     onward_trans c.args.self.now c.ask.new.self c.fix_all.new.self onward c.fix_all.ensures.onward
 
 pub returns-in-Answered-AllFixed-clause-follows : goal.returns-in-Answered-AllFixed-clause-follows
 returns-in-Answered-AllFixed-clause-follows g c =
-    let onward = onward_from c.args.self.now c.ask.new.self c.prefer_against.new.solver c.prefer_against.ensures c.ask.ensures.onward in
+    let onward = onward_from c.args.self.now c.prefer_split.new.self c.ask.new.self c.prefer_split.ensures.same c.ask.ensures.onward in
     goes_all c.args.self.now c.fix_all.new.self c.args.core.now c.requires.post c.requires.copied
     (onward_trans c.args.self.now c.ask.new.self c.fix_all.new.self onward c.fix_all.ensures.onward)
     c.requires.core c.fix_all.ensures.closed
 
 pub returns-in-Answered-AllFixed-clause-settled : goal.returns-in-Answered-AllFixed-clause-settled
 returns-in-Answered-AllFixed-clause-settled g c =
-    let onward = onward_from c.args.self.now c.ask.new.self c.prefer_against.new.solver c.prefer_against.ensures c.ask.ensures.onward in
+    let onward = onward_from c.args.self.now c.prefer_split.new.self c.ask.new.self c.prefer_split.ensures.same c.ask.ensures.onward in
     settled_onward c.args.self.now c.fix_all.new.self c.fix_all.ensures.post
     (onward_trans c.args.self.now c.ask.new.self c.fix_all.new.self onward c.fix_all.ensures.onward)
-    (c.fix_all.ensures.models ∙ c.ask.ensures.models)
+    (c.fix_all.ensures.models ∙ c.ask.ensures.models ∙ c.prefer_split.ensures.same.models)
 
 pub returns-in-Answered-Spent-clause-settled : goal.returns-in-Answered-Spent-clause-settled
 returns-in-Answered-Spent-clause-settled g c =
-    let onward = onward_from c.args.self.now c.ask.new.self c.prefer_against.new.solver c.prefer_against.ensures c.ask.ensures.onward in
-    settled_onward c.args.self.now c.ask.new.self c.ask.ensures.post onward c.ask.ensures.models
+    let onward = onward_from c.args.self.now c.prefer_split.new.self c.ask.new.self c.prefer_split.ensures.same c.ask.ensures.onward in
+    settled_onward c.args.self.now c.ask.new.self c.ask.ensures.post onward (c.ask.ensures.models ∙ c.prefer_split.ensures.same.models)
 
 pub returns-in_err-take_model-in-Answered-Model-clause-onward : goal.returns-in_err-take_model-in-Answered-Model-clause-onward
 returns-in_err-take_model-in-Answered-Model-clause-onward g c =
-    let onward = onward_from c.args.self.now c.ask.new.self c.prefer_against.new.solver c.prefer_against.ensures c.ask.ensures.onward in
+    let onward = onward_from c.args.self.now c.prefer_split.new.self c.ask.new.self c.prefer_split.ensures.same c.ask.ensures.onward in
     onward_trans c.args.self.now c.ask.new.self c.take_model.new.self onward c.take_model.ensures.onward
 
 pub returns-in_ok-take_model-in-Answered-Model-clause-onward : goal.returns-in_ok-take_model-in-Answered-Model-clause-onward
 returns-in_ok-take_model-in-Answered-Model-clause-onward g c =
-    let onward = onward_from c.args.self.now c.ask.new.self c.prefer_against.new.solver c.prefer_against.ensures c.ask.ensures.onward in
+    let onward = onward_from c.args.self.now c.prefer_split.new.self c.ask.new.self c.prefer_split.ensures.same c.ask.ensures.onward in
     onward_trans c.args.self.now c.ask.new.self c.take_model.new.self onward c.take_model.ensures.onward
 
 pub take_model-requires-clause-core : goal.take_model-requires-clause-core
 take_model-requires-clause-core g c =
     let p = c.args.self.now in
-    let onward = onward_from p c.ask.new.self c.prefer_against.new.solver c.prefer_against.ensures c.ask.ensures.onward in
+    let onward = onward_from p c.prefer_split.new.self c.ask.new.self c.prefer_split.ensures.same c.ask.ensures.onward in
     subst (λ (a : About). AreWithin a.formula.vars c.args.core.now) (sym onward.question)
     (within_core p c.args.core.now c.requires.post c.requires.copied c.requires.core.were_open)
 
 pub take_model-requires-clause-refuted : goal.take_model-requires-clause-refuted
 take_model-requires-clause-refuted g c = λ _.
-    let onward = onward_from c.args.self.now c.ask.new.self c.prefer_against.new.solver c.prefer_against.ensures c.ask.ensures.onward in
+    let onward = onward_from c.args.self.now c.prefer_split.new.self c.ask.new.self c.prefer_split.ensures.same c.ask.ensures.onward in
     core_later c.args.self.now c.ask.new.self c.args.core.now onward c.requires.core
 
 pub take_model-requires-clause-serves : goal.take_model-requires-clause-serves
 take_model-requires-clause-serves g c =
-    let onward = onward_from c.args.self.now c.ask.new.self c.prefer_against.new.solver c.prefer_against.ensures c.ask.ensures.onward in
+    let onward = onward_from c.args.self.now c.prefer_split.new.self c.ask.new.self c.prefer_split.ensures.same c.ask.ensures.onward in
     let says : IsModelFor c.ask.new.self.solver.log.formula [] c.args.core.now c.in-Answered-Model.model =
     subst (λ (f : Found). FoundSays f [] c.args.core.now c.ask.new.self.budget c.ask.new.self.solver.log) c.in-Answered-Model.field-0-is c.in-Answered-Model.ensures.says in
     inr (record {
@@ -88,9 +94,9 @@ take_model-requires-clause-serves g c =
 
 pub returns-in_ok-take_model-in-Answered-Model-clause-settled : goal.returns-in_ok-take_model-in-Answered-Model-clause-settled
 returns-in_ok-take_model-in-Answered-Model-clause-settled g c = λ settled.
-    let onward = onward_from c.args.self.now c.ask.new.self c.prefer_against.new.solver c.prefer_against.ensures c.ask.ensures.onward in
+    let onward = onward_from c.args.self.now c.prefer_split.new.self c.ask.new.self c.prefer_split.ensures.same c.ask.ensures.onward in
     c.in_ok-take_model-in-Answered-Model.ensures.settled
-    (settled_onward c.args.self.now c.ask.new.self c.ask.ensures.post onward c.ask.ensures.models settled)
+    (settled_onward c.args.self.now c.ask.new.self c.ask.ensures.post onward (c.ask.ensures.models ∙ c.prefer_split.ensures.same.models) settled)
 
 pub unreachable-requires : goal.unreachable-requires
 unreachable-requires g c =

@@ -3,7 +3,7 @@ use Rattle.std.proofs.lemmas.Result.{IfOk-weaker}
 use Rattle.core_chunks.specs.Chunks.{block_of}
 use Rattle.core_chunks.proofs.Counts.{block_is_open}
 use Rattle.worker_loop.specs.Steps.Moves.{IsBlockOfAll}
-use Rattle.worker_loop.proofs.turn.first_open.Goals as goal
+use Rattle.worker_loop.proofs.turn.open_from.Goals as goal
 
 pub returns : goal.returns
 returns c =
