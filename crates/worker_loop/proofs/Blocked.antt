@@ -35,3 +35,10 @@ core_onward p q block id core onward is found =
     core_of q block p.question.now.formula.vars id core
     (subst (λ (ws : List ℕ). IsBlockOf ws p.question.now.formula.vars 256 block) (sym onward.copy) is)
     (subst (λ (a : About). IsCoreFor q.solver.log (map (against_phase a.phases) block) core id) (sym onward.question) found)
+
+-- a block stays one
+pub block_later : (p q : Post) (block : List ℕ) → IsOnward p q → IsBlockOf p.loaded.items p.question.now.formula.vars 256 block
+    → IsBlockOf q.loaded.items q.question.now.formula.vars 256 block
+block_later p q block onward is =
+    subst (λ (a : About). IsBlockOf q.loaded.items a.formula.vars 256 block) (sym onward.question)
+    (subst (λ (ws : List ℕ). IsBlockOf ws p.question.now.formula.vars 256 block) (sym onward.copy) is)

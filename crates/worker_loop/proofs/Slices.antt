@@ -232,3 +232,7 @@ looked p q s queried count post seat onward models log most =
       asked = asked_none p.solver.log q.solver.log (queried_continued p.solver.log s.log q.solver.log queried log) learnt;
       learnt = learnt;
     }
+
+-- and what was found in it fixed
+pub asked_harvested : (p q r : Post) → IsLooking p q → r.solver ≡ q.solver → IsAskedTimes 0 p.solver.log r.solver.log
+asked_harvested p q r looking same = subst (λ (s : SolverState). IsAskedTimes 0 p.solver.log s.log) (sym same) looking.asked

@@ -1,10 +1,10 @@
 //! Queries, in slices.
-ghost use Rattle.std.specs.Prelude.{◌≡◌, ◌+◌, ◌<◌, ◌≤◌, length, All, IsTrue, IfOk, IfSome, false};
+ghost use Rattle.std.specs.Prelude.{◌≡◌, ◌+◌, ◌<◌, ◌≤◌, length, All, IsTrue, IfOk, IfSome, false, []};
 ghost use Rattle.cnf_core.specs.Literals.{IsWithin, AreWithin};
 ghost use Rattle.candidate_words.specs.Seats.{Sits};
 ghost use Rattle.lrat_log.specs.Entries.{learnt_count};
 ghost use Rattle.assumption_solver.specs.Logs.{IsContinued};
-ghost use Rattle.assumption_solver.specs.Answers.{ProgressSays};
+ghost use Rattle.assumption_solver.specs.Answers.{FoundSays, ProgressSays};
 ghost use Rattle.worker_loop.specs.Steps.Held.{IsPost};
 ghost use Rattle.worker_loop.specs.Steps.Moves.{IsLoaded, IsOnward, IsUnmoved, IsAskedTimes, IsClosed};
 ghost use Rattle.worker_loop.specs.Steps.Asked.{AskedSays};
@@ -57,6 +57,33 @@ impl<'f, 'r> Post<'f, 'r> {
         let asked = self.go_on(words, assume, chunk, chooser);
         self.harvest(words);
         asked
+    }
+
+    /// Asks the solver under assumptions, as far as it comes without a conflict. Afterwards all new root literals are fixed.
+    pub fn look(
+        &mut self,
+        words: &Words,
+        assume: &[Lit],
+        chooser: &mut Box<dyn Chooser>,
+    ) -> Option<Found>
+        requires post { IsPost self.old }
+        requires sits { Sits words.now self.old.seat }
+        requires copied { IsLoaded self.old }
+        requires assume { AreWithin self.old.question.now.formula.vars assume.now }
+        ensures post { IsPost self.new }
+        ensures sits { Sits words.now self.new.seat }
+        ensures onward { IsOnward self.old self.new }
+        ensures models { self.new.models ≡ self.old.models }
+        ensures asked { IsAskedTimes 0 self.old.solver.log self.new.solver.log }
+        ensures says { IfSome result (λ found. FoundSays found assume.now [] self.new.budget self.new.solver.log) }
+    {
+        self.solver.begin(chooser);
+        let progress = self.slice(assume, &[], chooser, 0);
+        self.harvest(words);
+        match progress {
+            Progress::Found(found) => Some(found),
+            Progress::Paused => None,
+        }
     }
 
     /// Goes on with a query until it has its answer, or all that it asks about was closed.

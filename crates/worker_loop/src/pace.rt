@@ -12,7 +12,12 @@ const VERY_NEAR: u32 = 4;
 const FEW: usize = 256;
 
 /// So many visits are allowed before the solver has done anything.
-const FIRST_VISITS: u64 = 20_000_000;
+const FIRST_VISITS: u64 = 5_000_000;
+
+/// For each of its first conflicts so many more are, as far as to this one.
+const EARLY_VISITS: u64 = 15_000;
+
+const EARLY: u64 = 1_000;
 
 /// A core query of so many conflicts is long.
 const LONG_QUERY: u64 = 50;
@@ -31,7 +36,7 @@ pub(crate) struct Pace {
     low: u32,
     /// How many jumps in a row didn't come near.
     hopeless: u32,
-    /// So many models that leave more than few candidates are passed over.
+    /// So many models are passed over, as long as the search is easy or they leave more than few candidates.
     skip: u32,
     /// The solver's conflicts when the turn began.
     turn_began: u64,
@@ -52,8 +57,8 @@ impl Pace {
         }
     }
 
-    /// How many visits are allowed now: a tenth of the solver's work and some before it, and more of it where the last
-    /// search came near.
+    /// How many visits are allowed now: a tenth of the solver's work, and more of it where the last search came near, some
+    /// before it and some for its first conflicts.
     fn allowance(&self, solver: &Solver) -> u64 {
         let counts = solver.counts();
         let work = counts
@@ -67,6 +72,7 @@ impl Pace {
         };
         earned
             .saturating_add(FIRST_VISITS)
+            .saturating_add(counts.conflicts.min(EARLY).saturating_mul(EARLY_VISITS))
             .saturating_sub(self.visits)
     }
 
@@ -74,7 +80,7 @@ impl Pace {
     pub fn allows_jump(&mut self, solver: &Solver, beginning: u64, left: usize) -> bool {
         if self.skip > 0 {
             self.skip = self.skip.saturating_sub(1);
-            if left > FEW {
+            if left > FEW || solver.counts().conflicts < EARLY {
                 return false;
             }
         }

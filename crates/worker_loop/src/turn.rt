@@ -1,10 +1,11 @@
 //! A turn: the loads, a core query, and what follows from its answer.
-ghost use Rattle.std.specs.Prelude.{◌≡◌, ◌^◌, ◌<◌, ◌≤◌, length, IfOk, IfSome, OnOk, All, map};
+ghost use Rattle.std.specs.Prelude.{◌≡◌, ◌^◌, ◌<◌, ◌≤◌, length, IfOk, IfSome, OnOk, All, map, []};
 ghost use Rattle.cnf_core.specs.Literals.{AreWithin};
 ghost use Rattle.cnf_core.specs.Formulas.{IsModel};
 ghost use Rattle.board_core.specs.Subjects.{groups};
 ghost use Rattle.candidate_words.specs.Seats.{Sits};
 ghost use Rattle.core_chunks.specs.Chunks.{IsBlockOf};
+ghost use Rattle.assumption_solver.specs.Answers.{FoundSays};
 ghost use Rattle.worker_loop.specs.Posts.{IsLater, HasStored};
 ghost use Rattle.worker_loop.specs.Steps.Held.{IsPost, state_of, IsBetweenTurns};
 ghost use Rattle.worker_loop.specs.Steps.Moves.{IsLoaded, IsOnward, IsAskedTimes, against_phase, IsUnmoved, KeepsSettled, IsBlockOfAll};
@@ -85,7 +86,8 @@ impl<'f, 'r> Post<'f, 'r> {
         self.first_group = group_of(*last);
     }
 
-    /// Works on the block, or on another one.
+    /// Asks whether all of the block can be against their phases. Where the solver doesn't say so at once, it asks about
+    /// this or another block until it has an answer. It goes on by that.
     fn work(
         &mut self,
         words: &Words,
@@ -106,11 +108,16 @@ impl<'f, 'r> Post<'f, 'r> {
         ensures follows { IfOk result (λ end. Follows end self.new) }
         ensures settled { OnOk result (KeepsSettled self.old self.new) }
     {
-        let block = self.choose_block(block, chooser)?;
-        self.work_on(words, &block, chooser)
+        let assume = self.against(&block)?;
+        self.prefer(&assume)?;
+        if let Some(found) = self.look(words, &assume, chooser) {
+            return self.follow(words, &block, found, chooser);
+        }
+        let chosen = self.choose_block(block, chooser)?;
+        self.work_on(words, &chosen, chooser)
     }
 
-    /// Asks whether all of the block can be against their phases, and goes on by the answer.
+    /// Asks whether all of the block can be against their phases until there is an answer, and goes on by that.
     fn work_on(
         &mut self,
         words: &Words,
@@ -135,15 +142,43 @@ impl<'f, 'r> Post<'f, 'r> {
         self.prefer(&assume)?;
         match self.ask(words, &assume, &[], chooser) {
             Asked::Closed => Ok(TurnEnd::Going),
-            Asked::Answered(Found::Model(model)) => {
+            Asked::Answered(found) => self.follow(words, block, found, chooser),
+        }
+    }
+
+    /// Goes on by what the solver has found about the block.
+    fn follow(
+        &mut self,
+        words: &Words,
+        block: &[u32],
+        found: Found,
+        chooser: &mut Box<dyn Chooser>,
+    ) -> Result<TurnEnd, NoMemory>
+        requires post { IsPost self.old }
+        requires sits { Sits words.now self.old.seat }
+        requires copied { IsLoaded self.old }
+        requires block { IsBlockOf self.old.loaded.items self.old.question.now.formula.vars 256 block.now }
+        requires some { 0 < length block.now }
+        requires found { FoundSays found (map (against_phase self.old.question.now.phases) block.now) [] self.old.budget self.old.solver.log }
+        requires room { length self.old.models.models < 2 ^ 26 }
+        ensures post { IsPost self.new }
+        ensures sits { Sits words.now self.new.seat }
+        ensures onward { IsOnward self.old self.new }
+        ensures asked { IsAskedTimes 1 self.old.solver.log self.new.solver.log }
+        ensures stored { HasStored self.old.models self.new.models }
+        ensures follows { IfOk result (λ end. Follows end self.new) }
+        ensures settled { OnOk result (KeepsSettled self.old self.new) }
+    {
+        match found {
+            Found::Model(model) => {
                 self.take_model(words, model, &[])?;
                 Ok(TurnEnd::Going)
             }
-            Asked::Answered(Found::Core { lits, .. }) => self.take_core(words, &lits, chooser),
-            Asked::Answered(Found::Spent) => Ok(TurnEnd::Spent),
-            Asked::Answered(Found::Memory) => Err(NoMemory),
-            Asked::Answered(Found::AllFixed) => unreachable!(),
-            Asked::Answered(Found::Unsat { .. }) => unreachable!(),
+            Found::Core { lits, .. } => self.take_core(words, &lits, chooser),
+            Found::Spent => Ok(TurnEnd::Spent),
+            Found::Memory => Err(NoMemory),
+            Found::AllFixed => unreachable!(),
+            Found::Unsat { .. } => unreachable!(),
         }
     }
 
