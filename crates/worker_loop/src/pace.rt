@@ -12,7 +12,7 @@ const VERY_NEAR: u32 = 4;
 const FEW: usize = 256;
 
 /// So many visits are allowed before the solver has done anything.
-const FIRST_VISITS: u64 = 5_000_000;
+const FIRST_VISITS: u64 = 2_000_000;
 
 /// For each of its first conflicts so many more are, as far as to this one.
 const EARLY_VISITS: u64 = 15_000;
