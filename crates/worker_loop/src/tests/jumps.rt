@@ -4,12 +4,9 @@ ghost use Rattle.cnf_core.specs.Literals.{AreWithin};
 
 use crate::jumping::Jumper;
 use crate::tests::{fits, value, values};
-use assumption_solver::{Found, Solver};
-use chooser_core::Chooser;
-use choosers::OrderChooser;
+use assumption_solver::Solver;
 use cnf_core::{Formula, Lit, Values};
 use std::alloc::Global;
-use std::boxed::Box;
 use std::test::Fail;
 
 /// Six variables of one value.
@@ -92,38 +89,5 @@ fn a_jump_closes_as_many_as_a_block_has_or_splits_the_core(rt: HostRuntime) -> R
     assert!(rt; found.is_none());
     let found = landing(alloc, &formula, &[-1, -2, -3], &[1, 2])?;
     assert!(rt; has_bits(&found, 0b010));
-    Ok(())
-}
-
-/// The model that a solver finds after a small step from the model in which all is true, to one in which the literal of
-/// this number is false.
-fn stepped(alloc: Global, formula: &Formula, number: i32) -> Result<Option<Values>, Fail> {
-    let vars = formula.vars();
-    let start = values(alloc, vars, u32::MAX)?;
-    let lit = Lit::of(number).ok_or("a literal")?;
-    if start.len() != vars || lit.var() > vars {
-        return Err(Fail::from("no variable"));
-    }
-    let mut solver = Solver::new(alloc, formula)?;
-    let mut jumper = Jumper::new(formula, 1);
-    if !jumper.step(alloc, &mut solver, &start, lit) {
-        return Ok(None);
-    }
-    let mut chooser: Box<dyn Chooser> = Box::new(alloc, OrderChooser::new())?;
-    chooser.begin(vars, 0)?;
-    match solver.solve(&[], &[], &mut chooser, 0) {
-        Found::Model(model) => Ok(Some(model)),
-        _ => Err(Fail::from("no model")),
-    }
-}
-
-#[test]
-fn after_a_small_step_the_solver_goes_on_by_its_model(rt: HostRuntime) -> Result<(), Fail> {
-    let alloc = rt.alloc();
-    let formula = Formula::of_numbers(alloc, 6, &RING)?;
-    assert!(rt; has_bits(&stepped(alloc, &formula, 3)?, 0));
-    assert!(rt; has_bits(&stepped(alloc, &formula, -3)?, 0b11_1111));
-    let led = Formula::of_numbers(alloc, 7, &LED)?;
-    assert!(rt; stepped(alloc, &led, 1)?.is_none());
     Ok(())
 }
