@@ -1,17 +1,17 @@
 -- How many queries of a log have learnt something, as the log grows.
-use Rattle.std.proofs.Common.{◌≡◌, ℕ, ◌+◌, ◌≤◌, Bool, true, false, true≢false, eqb, List, [], ◌∷◌, ◌++◌, length, map, filter, refl, sym, ap, ◌∙◌, subst, inl, inr, arith}
+use Rattle.std.proofs.Common.{◌≡◌, ℕ, zero, suc, ◌+◌, ◌≤◌, Bool, true, false, true≢false, eqb, List, [], ◌∷◌, ◌++◌, length, map, filter, refl, sym, ap, ◌∙◌, subst, inl, inr, arith}
 use Rattle.std.specs.Prelude.{All, ◌||◌}
 use Rattle.std.specs.List.{list_any}
 use Rattle.std.specs.Set.{unique_keys, distinct_count, is_member}
 use Rattle.std.proofs.lemmas.Bool.{cases_Bool, cond-true, cond-false, eq-eqb}
-use Rattle.std.proofs.lemmas.List.{append-nil, length-append, map-append}
+use Rattle.std.proofs.lemmas.List.{append-nil, length-append, length-map, map-append}
 use Rattle.std.proofs.lemmas.List.Elements.{filter-append, All-map, All-filter, All-head, All-tail}
 use Rattle.std.proofs.lemmas.List.Folds.{list_any-append}
 use Rattle.std.proofs.lemmas.List.Sums.{length-filter}
 use Rattle.lrat_log.specs.Entries.{Entry, Recorded, is_learnt_entry, learnt_count}
 use Rattle.lrat_log.specs.Laws.{learning_queries}
 use Rattle.assumption_solver.specs.Logs.{IsQueried}
-use Rattle.worker_loop.specs.Steps.Moves.{IsAskedTimes}
+use Rattle.worker_loop.specs.Steps.Moves.{IsAskedTimes, queries_of}
 
 -- how many different numbers
 abbrev different : List ℕ → ℕ
@@ -120,3 +120,28 @@ asked_same L M same = record {
   most = omega (arith, ap learning_queries same);
   none = λ e. ap learning_queries same;
 }
+
+-- no more queries learnt than clauses were learnt
+few_different : (ks : List ℕ) → different ks ≤ length ks
+few_different [] = omega arith
+few_different (k ∷ ks) =
+    elim (cases_Bool (is_member eqb ks k)) [
+      | inl is ↦ omega (arith, again k ks is, few_different ks)
+      | inr is ↦ omega (arith, fresh k ks is, few_different ks)
+    ]
+
+pub queries_learnt : (es : List Entry) → learning_queries es ≤ learnt_count es
+queries_learnt es = omega (
+  arith,
+  few_different (queries es),
+  length-map (filter is_learnt_entry es) (λ (e : Entry). e.query),
+  length-filter is_learnt_entry es,
+)
+
+-- at most so many times is at most more times
+pub asked_more : (j k : ℕ) (L M : Recorded) → j ≤ k → IsAskedTimes j L M → IsAskedTimes k L M
+asked_more j k L M less asked = record { most = omega (arith, asked.most); none = asked.none }
+
+pub queries_few : (conflicts : ℕ) → queries_of conflicts ≤ 1
+queries_few zero = omega arith
+queries_few (suc conflicts) = omega arith

@@ -23,7 +23,6 @@ use Rattle.worker_loop.specs.Turns.{closed_count, Goes, IsWorked, IsDone, TurnSa
 use Rattle.worker_loop.specs.Runs.{ByCause, UnlessMemory, IsFound}
 use Rattle.worker_loop.specs.Steps.Handing.{end_of, HandsIn}
 use Rattle.worker_loop.specs.Steps.Running.{HasEvidence, EndsBy, IsRunning, turns_left}
-use Rattle.worker_loop.proofs.Blocks.{open_most}
 use Rattle.worker_loop.proofs.Counts.{open_later, open_and_closed}
 use Rattle.worker_loop.proofs.Onward.{longer_refl, longer_trans, seen_refl, seen_trans}
 use Rattle.worker_loop.proofs.Turning.{count_later}
@@ -54,14 +53,14 @@ later_trans p q r one two = record {
 }
 
 -- before the first turn
-pub running_first : (b : Board) (w : WorkerState) → Sits b w.post.seat → length w.post.models.models ≤ 1 → IsRunning b w w Going
-running_first b w sits few = record {
+pub running_first : (b : Board) (most : ℕ) (w : WorkerState) → Sits b w.post.seat → EndsBy most Going w → IsRunning b most w w Going
+running_first b most w sits few = record {
   sits = sits;
   number = refl;
   later = later_refl w.post;
   more = [];
   models = sym (append-nil w.post.models.models);
-  ends = omega (arith, few, open_most w.post.seat.view.seen w.post.about.formula.vars);
+  ends = few;
 }
 
 abbrev is_memory : TurnEnd → Bool
@@ -89,14 +88,14 @@ fewer_open b p q sits about own worked goes =
     let some : 0 < closed_count q.seat.view.loaded q.seat.view.seen n = subst (λ (m : ℕ). 0 < closed_count q.seat.view.loaded q.seat.view.seen m) vars goes.some in
     subst (λ (m : ℕ). open_count q.seat.view.seen m + 1 ≤ open_count p.seat.view.seen n) (sym vars) (omega (arith, sum, less, some))
 
-ends_next : (b : Board) (u v : WorkerState) (end : TurnEnd) → EndsBy Going u → Sits b v.post.seat → v.post.about ≡ u.post.about
+ends_next : (b : Board) (most : ℕ) (u v : WorkerState) (end : TurnEnd) → EndsBy most Going u → Sits b v.post.seat → v.post.about ≡ u.post.about
     → v.post.seat.view.about ≡ v.post.about → length v.post.models.models ≤ length u.post.models.models + 1
-    → TurnSays end u.post v → (v.failed ≡ true → end ≡ Memory) → EndsBy end v
-ends_next b u v Going before sits about own one says dead =
+    → TurnSays end u.post v → (v.failed ≡ true → end ≡ Memory) → EndsBy most end v
+ends_next b most u v Going before sits about own one says dead =
     let less = fewer_open b u.post v.post sits about own says.0 says.1 in
     let vars : v.post.about.formula.vars ≡ u.post.about.formula.vars = ap (λ (a : About). a.formula.vars) about in
     omega (arith, before, less, vars, one)
-ends_next b u v Done before sits about own one says dead =
+ends_next b most u v Done before sits about own one says dead =
     let vars : v.post.about.formula.vars ≡ u.post.about.formula.vars = ap (λ (a : About). a.formula.vars) about in
     let none : open_count v.post.seat.view.seen u.post.about.formula.vars ≡ 0 =
     ap (λ (ws : List ℕ). open_count ws u.post.about.formula.vars) says.seen ∙ says.none_open in (
@@ -104,24 +103,24 @@ ends_next b u v Done before sits about own one says dead =
       alive v.failed Done refl dead,
       omega (arith, before, vars, one),
     )
-ends_next b u v Spent before sits about own one says dead =
+ends_next b most u v Spent before sits about own one says dead =
     let vars : v.post.about.formula.vars ≡ u.post.about.formula.vars = ap (λ (a : About). a.formula.vars) about in
     (says.1, alive v.failed Spent refl dead, omega (arith, before, vars, one))
-ends_next b u v Memory before sits about own one says dead =
+ends_next b most u v Memory before sits about own one says dead =
     let vars : v.post.about.formula.vars ≡ u.post.about.formula.vars = ap (λ (a : About). a.formula.vars) about in
     omega (arith, before, vars, one)
 
 -- a turn more
-pub running_next : (b : Board) (w u v : WorkerState) (end : TurnEnd) → IsRunning b w u Going → Sits b v.post.seat → v.post.seat.view.about ≡ v.post.about
+pub running_next : (b : Board) (most : ℕ) (w u v : WorkerState) (end : TurnEnd) → IsRunning b most w u Going → Sits b v.post.seat → v.post.seat.view.about ≡ v.post.about
     → IsLater u.post v.post → HasStored u.post.models v.post.models → v.number ≡ u.number → TurnSays end u.post v
-    → (v.failed ≡ true → end ≡ Memory) → IsRunning b w v end
-running_next b w u v end before sits own later stored number says dead = record {
+    → (v.failed ≡ true → end ≡ Memory) → IsRunning b most w v end
+running_next b most w u v end before sits own later stored number says dead = record {
   sits = sits;
   number = number ∙ before.number;
   later = later_trans w.post u.post v.post before.later later;
   more = before.more ++ stored.more;
   models = stored.models ∙ ap (λ (ms : List Assignment). ms ++ stored.more) before.models ∙ append_assoc w.post.models.models before.more stored.more;
-  ends = ends_next b u v end before.ends sits later.about own
+  ends = ends_next b most u v end before.ends sits later.about own
       (omega (arith, ap length stored.models, length-append u.post.models.models stored.more, stored.one)) says dead;
 }
 
@@ -141,14 +140,14 @@ take_front (x ∷ xs) ys = ap (λ (zs : List _). x ∷ zs) (take_front xs ys)
 full_of : (n l budget o : ℕ) (es : ℕ) → (l + 2 * o ≤ 2 * n + 1) ⊎ ((es ≡ budget) × (l ≤ 2 * (n + 1))) → l ≤ 2 * (n + 1)
 full_of n l budget o es paced = ⊎_elim (λ (h : l + 2 * o ≤ 2 * n + 1). omega arith) (λ (h : (es ≡ budget) × (l ≤ 2 * (n + 1))). h.1) paced
 
-cause_of : (w v : WorkerState) (f : Findings) (end : TurnEnd) → HasEvidence v → IsLater w.post v.post → EndsBy end v → (end ≡ Going → ⊥)
+cause_of : (most : ℕ) (w v : WorkerState) (f : Findings) (end : TurnEnd) → HasEvidence v → IsLater w.post v.post → EndsBy most end v → (end ≡ Going → ⊥)
     → f.seat ≡ v.post.seat → f.log ≡ v.post.log → ByCause (end_of end) w.post f
-cause_of w v f Going evidence later ends over seat log = absurd (over refl)
-cause_of w v f Done evidence later ends over seat log =
+cause_of most w v f Going evidence later ends over seat log = absurd (over refl)
+cause_of most w v f Done evidence later ends over seat log =
     let vars : v.post.about.formula.vars ≡ w.post.about.formula.vars = ap (λ (a : About). a.formula.vars) later.about in
     subst (λ (s : Sitter). open_count s.view.seen w.post.about.formula.vars ≡ 0) (sym seat)
     (subst (λ (m : ℕ). open_count v.post.seat.view.seen m ≡ 0) vars ends.0)
-cause_of w v f Spent evidence later ends over seat log =
+cause_of most w v f Spent evidence later ends over seat log =
     let between = evidence.between ends.1 in
     let full : IsFull v.post.about.formula v.post.budget v.post.log.entries = record {
       each_next = evidence.log;
@@ -159,23 +158,23 @@ cause_of w v f Spent evidence later ends over seat log =
     subst (λ (L : Recorded). IsFull w.post.about.formula w.post.budget L.entries) (sym log)
     (subst (λ (k : ℕ). IsFull w.post.about.formula k v.post.log.entries) later.budget
     (subst (λ (a : About). IsFull a.formula v.post.budget v.post.log.entries) later.about full))
-cause_of w v f Memory evidence later ends over seat log = tt {0}
+cause_of most w v f Memory evidence later ends over seat log = tt {0}
 
-settled_of : (v : WorkerState) (end : TurnEnd) → HasEvidence v → EndsBy end v → (end ≡ Going → ⊥)
+settled_of : (most : ℕ) (v : WorkerState) (end : TurnEnd) → HasEvidence v → EndsBy most end v → (end ≡ Going → ⊥)
     → UnlessMemory (end_of end) (IsSettled v.post.about v.post.seat.view v.post.models)
-settled_of v Going evidence ends over = absurd (over refl)
-settled_of v Done evidence ends over = (evidence.between ends.1).settled
-settled_of v Spent evidence ends over = (evidence.between ends.1).settled
-settled_of v Memory evidence ends over = tt {0}
+settled_of most v Going evidence ends over = absurd (over refl)
+settled_of most v Done evidence ends over = (evidence.between ends.1).settled
+settled_of most v Spent evidence ends over = (evidence.between ends.1).settled
+settled_of most v Memory evidence ends over = tt {0}
 
-few_of : (v : WorkerState) (end : TurnEnd) → EndsBy end v → (end ≡ Going → ⊥) → length v.post.models.models ≤ v.post.about.formula.vars + 2
+few_of : (v : WorkerState) (end : TurnEnd) → EndsBy 2 end v → (end ≡ Going → ⊥) → length v.post.models.models ≤ v.post.about.formula.vars + 3
 few_of v Going ends over = absurd (over refl)
 few_of v Done ends over = ends.2
 few_of v Spent ends over = ends.2
 few_of v Memory ends over = ends
 
 -- what is handed in after the last turn
-pub found : (b : Board) (w v : WorkerState) (f : Findings) (end : TurnEnd) → IsRunning b w v end → (end ≡ Going → ⊥) → HasEvidence v
+pub found : (b : Board) (w v : WorkerState) (f : Findings) (end : TurnEnd) → IsRunning b 2 w v end → (end ≡ Going → ⊥) → HasEvidence v
     → HandsIn v (end_of end) f → IsFound b w f
 found b w v f end running over evidence hands =
     let about : v.post.about ≡ b.about = sym evidence.view ∙ running.sits.view.about in
@@ -195,12 +194,12 @@ found b w v f end running over evidence hands =
           (subst (λ (s : Sitter). UnlessMemory (end_of end) (IsSettled b.about s.view f.models)) (sym hands.seat)
           (subst (λ (m : Store). UnlessMemory (end_of end) (IsSettled b.about v.post.seat.view m)) (sym hands.models)
           (subst (λ (a : About). UnlessMemory (end_of end) (IsSettled a v.post.seat.view v.post.models)) about
-          (settled_of v end evidence running.ends over))));
+          (settled_of 2 v end evidence running.ends over))));
       first = subst (λ (m : Store). take (length w.post.models.models) m.models ≡ w.post.models.models) (sym hands.models) first;
-      few = subst (λ (m : Store). length m.models ≤ b.about.formula.vars + 2) (sym hands.models)
-          (subst (λ (a : About). length v.post.models.models ≤ a.formula.vars + 2) about (few_of v end running.ends over));
+      few = subst (λ (m : Store). length m.models ≤ b.about.formula.vars + 3) (sym hands.models)
+          (subst (λ (a : About). length v.post.models.models ≤ a.formula.vars + 3) about (few_of v end running.ends over));
       cause = subst (λ (e : End). ByCause e w.post f) (sym hands.end)
-          (cause_of w v f end evidence running.later running.ends over hands.seat hands.log);
+          (cause_of 2 w v f end evidence running.later running.ends over hands.seat hands.log);
     }
   where
     told_of : (b : Board) (v : WorkerState) (f : Findings) (end : TurnEnd) → v.post.about ≡ b.about → HandsIn v (end_of end) f

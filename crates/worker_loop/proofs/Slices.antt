@@ -1,5 +1,5 @@
 -- What queries leave of a post.
-use Rattle.std.proofs.Common.{◌≡◌, ℕ, ◌+◌, ◌-◌, ◌<◌, ◌≤◌, false, List, [], ◌++◌, refl, sym, ap, ◌∙◌, subst, arith, append_assoc}
+use Rattle.std.proofs.Common.{◌≡◌, ℕ, zero, suc, ◌+◌, ◌-◌, ◌<◌, ◌≤◌, false, List, [], ◌++◌, refl, sym, ap, ◌∙◌, subst, arith, append_assoc}
 use Rattle.std.proofs.lemmas.List.{append-nil}
 use Rattle.std.proofs.lemmas.List.Elements.{All-nil, All-append, All-weaker}
 use Rattle.lrat_log.specs.Entries.{Entry, Recorded, is_import, learnt_count}
@@ -16,7 +16,7 @@ use Rattle.assumption_solver.specs.declared.found.Progress.TheVariants.{Found as
 use Rattle.worker_loop.specs.declared.post.Post.{Post}
 use Rattle.worker_loop.specs.Posts.{IsLonger}
 use Rattle.worker_loop.specs.Steps.Held.{IsPost}
-use Rattle.worker_loop.specs.Steps.Moves.{IsOnward, IsAskedTimes, IsLooking, IsUnmoved}
+use Rattle.worker_loop.specs.Steps.Moves.{IsOnward, IsAskedTimes, IsLooking, IsUnmoved, queries_of}
 use Rattle.worker_loop.proofs.Grown.{longer_continued, longer_queried, clocked_continued, clocked_queried}
 use Rattle.worker_loop.proofs.Imports.{post_moved}
 use Rattle.worker_loop.proofs.Onward.{seen_refl, onward_refl, onward_trans}
@@ -233,6 +233,22 @@ looked p q s queried count post seat onward models log most =
       learnt = learnt;
     }
 
--- and what was found in it fixed
-pub asked_harvested : (p q r : Post) → IsLooking p q → r.solver ≡ q.solver → IsAskedTimes 0 p.solver.log r.solver.log
-asked_harvested p q r looking same = subst (λ (s : SolverState). IsAskedTimes 0 p.solver.log s.log) (sym same) looking.asked
+-- a query of which so many conflicts were looked at, and what was found in it was fixed
+pub looked_onward : (p q r : Post) (s : SolverState) → IsQueried p.solver.log s.log → IsOnward (record p { solver = s }) q → IsOnward q r → IsOnward p r
+looked_onward p q r s queried onward after =
+    onward_trans p q r (onward_trans p (record p { solver = s }) q (onward_queried p s queried) onward) after
+
+asked_within : (conflicts : ℕ) (L M N : Recorded) → IsQueried L M → learnt_count M.entries ≡ learnt_count L.entries → IsContinued M N
+    → learnt_count L.entries ≤ learnt_count N.entries → learnt_count N.entries ≤ learnt_count M.entries + conflicts
+    → IsAskedTimes (queries_of conflicts) L N
+asked_within zero L M N queried count log more most = asked_none L N (queried_continued L M N queried log) (omega (arith, count, more, most))
+asked_within (suc conflicts) L M N queried count log more most = asked_once L N (queried_continued L M N queried log)
+
+pub looked_asked : (p q r : Post) (s : SolverState) (conflicts : ℕ) → IsQueried p.solver.log s.log
+    → learnt_count s.log.entries ≡ learnt_count p.solver.log.entries → IsOnward (record p { solver = s }) q → IsContinued s.log q.solver.log
+    → learnt_count q.solver.log.entries ≤ learnt_count s.log.entries + conflicts → r.solver ≡ q.solver
+    → IsAskedTimes (queries_of conflicts) p.solver.log r.solver.log
+looked_asked p q r s conflicts queried count onward log most same =
+    let all : IsOnward p q = onward_trans p (record p { solver = s }) q (onward_queried p s queried) onward in
+    subst (λ (t : SolverState). IsAskedTimes (queries_of conflicts) p.solver.log t.log) (sym same)
+    (asked_within conflicts p.solver.log s.log q.solver.log queried count log (learnt_longer p.solver.log q.solver.log all.log) most)

@@ -1,11 +1,13 @@
 -- A turn whose words showed something open, from its start to its end.
-use Rattle.std.proofs.Common.{◌≡◌, ℕ, ◌+◌, ◌*◌, ◌<◌, ◌≤◌, Result, Ok, Err, min, List, length, refl, sym, ap, ◌∙◌, subst, arith}
-use Rattle.std.specs.Prelude.{IfOk, OnOk}
+use Rattle.std.proofs.Common.{◌≡◌, ℕ, zero, suc, inl, ◌+◌, ◌*◌, ◌<◌, ◌≤◌, Result, Ok, Err, min, List, length, refl, sym, ap, ◌∙◌, subst, arith}
+use Rattle.std.specs.Prelude.{Option, Some, None, IfOk, OnOk, IfSome, IfNone}
 use Rattle.cnf_core.specs.declared.memory.NoMemory.{NoMemory}
 use Rattle.lrat_log.specs.Entries.{Recorded, learnt_count}
+use Rattle.lrat_log.specs.Laws.{learning_queries}
 use Rattle.board_core.specs.Subjects.{About, groups}
 use Rattle.board_core.specs.Words.{open_at}
 use Rattle.board_core.specs.Rules.{AreEarlier, AreWords}
+use Rattle.candidate_words.specs.Seats.{Sitter}
 use Rattle.model_store.specs.Stores.{Store}
 use Rattle.core_chunks.specs.Chunks.{open_count, IsBlockOf}
 use Rattle.assumption_solver.specs.SolverStates.{SolverState}
@@ -16,7 +18,7 @@ use Rattle.worker_loop.specs.Posts.{PostState, IsLater}
 use Rattle.worker_loop.specs.Evidence.{IsSettled, IsPaced}
 use Rattle.worker_loop.specs.Turns.{closed_count, Goes, IsWorked}
 use Rattle.worker_loop.specs.Steps.Held.{IsPost, IsBetweenTurns, state_of}
-use Rattle.worker_loop.specs.Steps.Moves.{IsLoaded, IsOnward, IsHearing, HasLoadedAll, HasHeard, HasTaken, IsAskedTimes, IsUnmoved, KeepsSettled}
+use Rattle.worker_loop.specs.Steps.Moves.{IsLoaded, IsOnward, IsHearing, HasLoadedAll, HasHeard, HasTaken, IsAskedTimes, IsUnmoved, KeepsSettled, IsInVain, IsAffordable}
 use Rattle.worker_loop.specs.Steps.Following.{Follows, PostSays}
 use Rattle.worker_loop.proofs.Counts.{open_later, open_and_closed}
 use Rattle.worker_loop.proofs.Queries.{asked_after, asked_same}
@@ -110,13 +112,67 @@ paced_end p q r s t Spent is follows paced =
     paced_spent (state_of p) (state_of t) later.about later.budget (asked_all p q r s t is) (learnt_longer p.solver.log t.solver.log later.log) follows (omega arith) paced
 paced_end p q r s t Memory is follows paced = absurd follows
 
-pub turn_between : (p q r s t : Post) (res : Result TurnEnd NoMemory) → HasTurned p q r s t → IfOk res (λ end. Follows end t)
-    → OnOk res (KeepsSettled s t) → OnOk res (IsBetweenTurns (state_of p) → IsBetweenTurns (state_of t))
-turn_between p q r s t (Ok end) is follows keeps = λ between. record {
-  settled = keeps (settled_hearing r s is.post_s is.hearing is.models_s
-      (settled_onward q r is.post_r (unmoved_onward q r is.same) is.same.models (settled_loads p q is.loads is.post_q between.settled)));
+settled_end : (p q r s t : Post) → HasTurned p q r s t → KeepsSettled s t
+    → IsSettled p.question.now p.seat.view p.models → IsSettled t.question.now t.seat.view t.models
+settled_end p q r s t is keeps settled =
+    keeps (settled_hearing r s is.post_s is.hearing is.models_s
+    (settled_onward q r is.post_r (unmoved_onward q r is.same) is.same.models (settled_loads p q is.loads is.post_q settled)))
+
+end_between : (p q r s t : Post) (end : TurnEnd) → HasTurned p q r s t → Follows end t → KeepsSettled s t
+    → IsBetweenTurns (state_of p) → IsBetweenTurns (state_of t)
+end_between p q r s t end is follows keeps between = record {
+  settled = settled_end p q r s t is keeps between.settled;
   paced = paced_end p q r s t end is follows between.paced;
 }
+
+-- a query that was given up is paid for, or learnt nothing
+vain_paced : (conflicts : ℕ) (p q r s t : Post) → HasTurned p q r s t → IsAffordable conflicts s → IsInVain conflicts s t
+    → IsPaced (state_of p) → IsPaced (state_of t)
+vain_paced zero p q r s t is paid vain paced =
+    let later = turn_later p q r s t is in
+    paced_by (state_of p) (state_of t) 0 later.about later.budget
+    (subst (λ (u : SolverState). IsAskedTimes 0 u.log t.solver.log) (is.same.solver ∙ is.loads.solver)
+    (asked_after 0 0 r.solver.log s.solver.log t.solver.log (learnt_longer r.solver.log s.solver.log is.hearing.log)
+    (learnt_longer s.solver.log t.solver.log is.working.log) is.asked_s vain.asked))
+    (learnt_longer p.solver.log t.solver.log later.log) is.post_t.few
+    (omega (arith, count_later p.question.now.formula.vars p.question.now.formula.vars p.seat.view.seen t.seat.view.seen (omega arith) later.seen)) paced
+vain_paced (suc conflicts) p q r s t is paid vain paced =
+    let n : ℕ = s.question.now.formula.vars in
+    let vars : t.question.now.formula.vars ≡ n = ap (λ (a : About). a.formula.vars) is.working.question in
+    let words : s.loaded.items ≡ t.seat.view.loaded = is.hearing.copy ∙ is.same.copy ∙ is.copied
+    ∙ sym (is.working.loaded ∙ is.hearing.loaded ∙ ap (λ (u : Sitter). u.view.loaded) is.same.seat) in
+    let later : AreEarlier (groups n) t.seat.view.loaded t.seat.view.seen =
+    subst (λ (m : ℕ). AreEarlier (groups m) t.seat.view.loaded t.seat.view.seen) vars is.post_t.view.loaded_seen in
+    let less : open_count t.seat.view.seen n ≤ open_count s.loaded.items n =
+    subst (λ (ws : List ℕ). open_count t.seat.view.seen n ≤ open_count ws n) (sym words)
+    (count_later n n t.seat.view.loaded t.seat.view.seen (omega arith) later) in
+    inl (subst (λ (m : ℕ). learning_queries t.solver.log.entries + 2 * open_count t.seat.view.seen m ≤ 2 * m + 1) (sym vars)
+    (omega (arith, vain.asked.most, paid, less)))
+
+vain_between : (conflicts : ℕ) (p q r s t : Post) → HasTurned p q r s t → IsAffordable conflicts s → IsInVain conflicts s t
+    → KeepsSettled s t → IsBetweenTurns (state_of p) → IsBetweenTurns (state_of t)
+vain_between conflicts p q r s t is paid vain keeps between = record {
+  settled = settled_end p q r s t is keeps between.settled;
+  paced = vain_paced conflicts p q r s t is paid vain between.paced;
+}
+
+pub tried_says : (p q r s t : Post) (res : Result (Option TurnEnd) NoMemory) → HasTurned p q r s t
+    → IfOk res (λ tried. IfSome tried (λ end. Follows end t))
+    → IfOk res (λ tried. IfSome tried (λ end. PostSays end (state_of p) (state_of t)))
+tried_says p q r s t (Ok (Some end)) is follows = says_by p q r s t end is follows
+tried_says p q r s t (Ok None) is follows = follows
+tried_says p q r s t (Err e) is follows = follows
+
+pub tried_between : (conflicts : ℕ) (p q r s t : Post) (res : Result (Option TurnEnd) NoMemory) → HasTurned p q r s t → IsAffordable conflicts s
+    → IfOk res (λ tried. IfSome tried (λ end. Follows end t)) → IfOk res (λ tried. IfNone tried (IsInVain conflicts s t))
+    → OnOk res (KeepsSettled s t) → OnOk res (IsBetweenTurns (state_of p) → IsBetweenTurns (state_of t))
+tried_between conflicts p q r s t (Ok (Some end)) is paid follows vain keeps = end_between p q r s t end is follows keeps
+tried_between conflicts p q r s t (Ok None) is paid follows vain keeps = vain_between conflicts p q r s t is paid vain keeps
+tried_between conflicts p q r s t (Err e) is paid follows vain keeps = keeps
+
+pub turn_between : (p q r s t : Post) (res : Result TurnEnd NoMemory) → HasTurned p q r s t → IfOk res (λ end. Follows end t)
+    → OnOk res (KeepsSettled s t) → OnOk res (IsBetweenTurns (state_of p) → IsBetweenTurns (state_of t))
+turn_between p q r s t (Ok end) is follows keeps = end_between p q r s t end is follows keeps
 turn_between p q r s t (Err e) is follows keeps = keeps
 
 -- where nothing was open, all stays settled and paced

@@ -33,5 +33,5 @@ pub record IsFound (b : Board) (w : WorkerState) (f : Findings) : Type 0 where
   pub clocked : IsClocked b.about f.seat.view f.log
   pub settled : UnlessMemory f.end (IsSettled b.about f.seat.view f.models)
   pub first : take (length w.post.models.models) f.models.models ≡ w.post.models.models
-  pub few : length f.models.models ≤ b.about.formula.vars + 2
+  pub few : length f.models.models ≤ b.about.formula.vars + 3
   pub cause : ByCause f.end w.post f

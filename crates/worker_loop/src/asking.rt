@@ -6,7 +6,7 @@ ghost use Rattle.lrat_log.specs.Entries.{learnt_count};
 ghost use Rattle.assumption_solver.specs.Logs.{IsContinued};
 ghost use Rattle.assumption_solver.specs.Answers.{FoundSays, ProgressSays};
 ghost use Rattle.worker_loop.specs.Steps.Held.{IsPost};
-ghost use Rattle.worker_loop.specs.Steps.Moves.{IsLoaded, IsOnward, IsUnmoved, IsAskedTimes, IsClosed};
+ghost use Rattle.worker_loop.specs.Steps.Moves.{IsLoaded, IsOnward, IsUnmoved, IsAskedTimes, IsClosed, queries_of};
 ghost use Rattle.worker_loop.specs.Steps.Asked.{AskedSays};
 
 use crate::masks::{group_of, has_bit, open_bits};
@@ -59,12 +59,14 @@ impl<'f, 'r> Post<'f, 'r> {
         asked
     }
 
-    /// Asks the solver under assumptions, as far as it comes without a conflict. Afterwards all new root literals are fixed.
+    /// Asks the solver under assumptions, as far as it comes with at most so many conflicts. Afterwards all new root literals
+    /// are fixed.
     pub fn look(
         &mut self,
         words: &Words,
         assume: &[Lit],
         chooser: &mut Box<dyn Chooser>,
+        conflicts: u64,
     ) -> Option<Found>
         requires post { IsPost self.old }
         requires sits { Sits words.now self.old.seat }
@@ -74,11 +76,11 @@ impl<'f, 'r> Post<'f, 'r> {
         ensures sits { Sits words.now self.new.seat }
         ensures onward { IsOnward self.old self.new }
         ensures models { self.new.models ≡ self.old.models }
-        ensures asked { IsAskedTimes 0 self.old.solver.log self.new.solver.log }
+        ensures asked { IsAskedTimes (queries_of conflicts) self.old.solver.log self.new.solver.log }
         ensures says { IfSome result (λ found. FoundSays found assume.now [] self.new.budget self.new.solver.log) }
     {
         self.solver.begin(chooser);
-        let progress = self.slice(assume, &[], chooser, 0);
+        let progress = self.slice(assume, &[], chooser, conflicts);
         self.harvest(words);
         match progress {
             Progress::Found(found) => Some(found),

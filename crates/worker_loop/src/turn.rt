@@ -1,5 +1,5 @@
 //! A turn: the loads, a core query, and what follows from its answer.
-ghost use Rattle.std.specs.Prelude.{◌≡◌, ◌^◌, ◌<◌, ◌≤◌, length, IfOk, IfSome, OnOk, All, map, []};
+ghost use Rattle.std.specs.Prelude.{◌≡◌, ◌^◌, ◌<◌, ◌≤◌, length, IfOk, IfSome, IfNone, OnOk, All, map, []};
 ghost use Rattle.cnf_core.specs.Literals.{AreWithin};
 ghost use Rattle.cnf_core.specs.Formulas.{IsModel};
 ghost use Rattle.board_core.specs.Subjects.{groups};
@@ -8,7 +8,7 @@ ghost use Rattle.core_chunks.specs.Chunks.{IsBlockOf};
 ghost use Rattle.assumption_solver.specs.Answers.{FoundSays};
 ghost use Rattle.worker_loop.specs.Posts.{IsLater, HasStored};
 ghost use Rattle.worker_loop.specs.Steps.Held.{IsPost, state_of, IsBetweenTurns};
-ghost use Rattle.worker_loop.specs.Steps.Moves.{IsLoaded, IsOnward, IsAskedTimes, against_phase, IsUnmoved, KeepsSettled, IsBlockOfAll};
+ghost use Rattle.worker_loop.specs.Steps.Moves.{IsLoaded, IsOnward, IsAskedTimes, against_phase, IsUnmoved, KeepsSettled, IsBlockOfAll, IsInVain, IsAffordable};
 ghost use Rattle.worker_loop.specs.Turns.{Goes};
 ghost use Rattle.worker_loop.specs.Steps.Following.{Follows, PostSays, IsCoreOf};
 ghost use Rattle.worker_loop.specs.Steps.Jumps.{Serves};
@@ -32,6 +32,9 @@ pub(crate) const BLOCK: u32 = 256;
 
 /// So many open candidates are decided against their phases, beside the block.
 const DOSE: u32 = 1024;
+
+/// A core query is easy that has at most so many conflicts.
+const EASY: u64 = 100;
 
 /// A jump is tried over at most so many open candidates.
 const MOST_LEFT: usize = 512;
@@ -61,6 +64,51 @@ impl<'f, 'r> Post<'f, 'r> {
         self.begin_behind(&block);
         self.hear(words)?;
         self.work(words, block, chooser)
+    }
+
+    /// Takes a turn where the solver answers the core query within a few conflicts. Otherwise it gives that query up.
+    pub fn easy_turn(
+        &mut self,
+        words: &Words,
+        chooser: &mut Box<dyn Chooser>,
+    ) -> Result<Option<TurnEnd>, NoMemory>
+        requires post { IsPost self.old }
+        requires sits { Sits words.now self.old.seat }
+        requires room { length self.old.models.models < 2 ^ 26 }
+        ensures post { IsPost self.new }
+        ensures sits { Sits words.now self.new.seat }
+        ensures later { IsLater (state_of self.old) (state_of self.new) }
+        ensures stored { HasStored self.old.models self.new.models }
+        ensures says { IfOk result (λ taken. IfSome taken (λ end. PostSays end (state_of self.old) (state_of self.new))) }
+        ensures vain { IfOk result (λ taken. IfNone taken (self.new.models ≡ self.old.models)) }
+        ensures between { OnOk result (IsBetweenTurns (state_of self.old) → IsBetweenTurns (state_of self.new)) }
+    {
+        self.load_all(words);
+        let block = self.open_block(self.first_group, BLOCK)?;
+        if block.is_empty() {
+            return Ok(Some(TurnEnd::Done));
+        }
+        self.begin_behind(&block);
+        self.hear(words)?;
+        let conflicts = self.easy_conflicts()?;
+        self.try_block(words, &block, chooser, conflicts)
+    }
+
+    /// How many conflicts a core query may have before it is given up: none where too few candidates are closed to pay for
+    /// a query more.
+    fn easy_conflicts(&self) -> Result<u64, NoMemory>
+        requires post { IsPost self.now }
+        requires copied { IsLoaded self.now }
+        ensures { IfOk result (λ conflicts. IsAffordable conflicts self.now) }
+    {
+        let vars = self.question.vars();
+        let open = self.open_block(0, vars)?.len() as u64;
+        let closed = u64::from(vars).saturating_sub(open);
+        if self.solver.log().count_learnt() <= 2 * closed {
+            Ok(EASY)
+        } else {
+            Ok(0)
+        }
     }
 
     /// The first open candidates of the loaded words, at most so many, with the groups taken from this one on.
@@ -108,13 +156,45 @@ impl<'f, 'r> Post<'f, 'r> {
         ensures follows { IfOk result (λ end. Follows end self.new) }
         ensures settled { OnOk result (KeepsSettled self.old self.new) }
     {
-        let assume = self.against(&block)?;
-        self.prefer(&assume)?;
-        if let Some(found) = self.look(words, &assume, chooser) {
-            return self.follow(words, &block, found, chooser);
+        match self.try_block(words, &block, chooser, 0)? {
+            Some(end) => Ok(end),
+            None => {
+                let chosen = self.choose_block(block, chooser)?;
+                self.work_on(words, &chosen, chooser)
+            }
         }
-        let chosen = self.choose_block(block, chooser)?;
-        self.work_on(words, &chosen, chooser)
+    }
+
+    /// Asks whether all of the block can be against their phases, and goes on by that where the solver says so within so
+    /// many conflicts.
+    fn try_block(
+        &mut self,
+        words: &Words,
+        block: &[u32],
+        chooser: &mut Box<dyn Chooser>,
+        conflicts: u64,
+    ) -> Result<Option<TurnEnd>, NoMemory>
+        requires post { IsPost self.old }
+        requires sits { Sits words.now self.old.seat }
+        requires copied { IsLoaded self.old }
+        requires block { IsBlockOf self.old.loaded.items self.old.question.now.formula.vars 256 block.now }
+        requires some { 0 < length block.now }
+        requires room { length self.old.models.models < 2 ^ 26 }
+        ensures post { IsPost self.new }
+        ensures sits { Sits words.now self.new.seat }
+        ensures onward { IsOnward self.old self.new }
+        ensures asked { IsAskedTimes 2 self.old.solver.log self.new.solver.log }
+        ensures stored { HasStored self.old.models self.new.models }
+        ensures follows { IfOk result (λ tried. IfSome tried (λ end. Follows end self.new)) }
+        ensures vain { IfOk result (λ tried. IfNone tried (IsInVain conflicts self.old self.new)) }
+        ensures settled { OnOk result (KeepsSettled self.old self.new) }
+    {
+        let assume = self.against(block)?;
+        self.prefer(&assume)?;
+        let Some(found) = self.look(words, &assume, chooser, conflicts) else {
+            return Ok(None);
+        };
+        Ok(Some(self.follow(words, block, found, chooser)?))
     }
 
     /// Asks whether all of the block can be against their phases until there is an answer, and goes on by that.

@@ -149,7 +149,7 @@ impl<'f, 'r> Worker<'f, 'r> {
     /// Passes the gate and takes a turn, until one doesn't answer `Going`. It waits for nobody.
     pub fn run<G: Gate>(self, words: &Words, gate: &G) -> Findings<'f>
         requires sits { Sits words.now self.post.seat }
-        requires few { length self.post.models.models ≤ 1 }
+        requires few { length self.post.models.models + open_count self.post.seat.view.seen self.post.about.formula.vars ≤ self.post.about.formula.vars + 2 }
         ensures { IsFound words.now self.entry result }
     {
         let mut worker = self;

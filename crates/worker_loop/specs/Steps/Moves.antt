@@ -1,5 +1,5 @@
 -- How a post moves by the steps of a turn.
-use Rattle.std.specs.Prelude.{◌≡◌, ℕ, suc, ◌+◌, ◌-◌, ◌*◌, ◌<◌, ◌≤◌, ◌⊎◌, not, Bool, List, length, All, Contains, slice_index}
+use Rattle.std.specs.Prelude.{◌≡◌, ℕ, zero, suc, ◌+◌, ◌-◌, ◌*◌, ◌<◌, ◌≤◌, ◌⊎◌, not, Bool, List, length, All, Contains, slice_index}
 use Rattle.std.specs.Int.{bit_at}
 use Rattle.cnf_core.specs.Literals.{Literal, Literals, Assignment, negated, value_of}
 use Rattle.cnf_core.specs.Formulas.{IsModel, true_literal}
@@ -11,7 +11,7 @@ use Rattle.board_core.specs.Rules.{AreEarlier}
 use Rattle.board_core.specs.declared.view.View.{View}
 use Rattle.candidate_words.specs.Seats.{Board, Sits}
 use Rattle.assumption_solver.specs.Units.{HasUnit}
-use Rattle.core_chunks.specs.Chunks.{IsBlockOf}
+use Rattle.core_chunks.specs.Chunks.{open_count, IsBlockOf}
 use Rattle.worker_loop.specs.declared.post.Post.{Post}
 use Rattle.worker_loop.specs.Posts.{PostState, IsLonger}
 use Rattle.worker_loop.specs.Evidence.{IsSettled}
@@ -135,6 +135,22 @@ pub record IsLooking (p q : Post) : Type 0 where
   pub models : q.models ≡ p.models
   pub asked : IsAskedTimes 0 p.solver.log q.solver.log
   pub learnt : learnt_count q.solver.log.entries ≡ learnt_count p.solver.log.entries
+
+-- a query of so many conflicts learns something in one query at most, and nothing where it has none
+abbrev pub queries_of : ℕ → ℕ
+queries_of zero = 0
+queries_of (suc conflicts) = 1
+
+-- nothing is stored, and a query of at most so many conflicts was given up
+pub record IsInVain (conflicts : ℕ) (p q : Post) : Type 0 where
+  pub models : q.models ≡ p.models
+  pub asked : IsAskedTimes (queries_of conflicts) p.solver.log q.solver.log
+
+-- a query of at most so many conflicts may be given up: the candidates that are closed pay for it
+abbrev pub IsAffordable : ℕ → Post → Type 0
+IsAffordable zero p = Unit {0}
+IsAffordable (suc conflicts) p =
+    learning_queries p.solver.log.entries + 1 + 2 * open_count p.loaded.items p.question.now.formula.vars ≤ 2 * p.question.now.formula.vars + 1
 
 -- nothing changes but the group of the next block
 pub record IsUnmoved (p q : Post) : Type 0 where

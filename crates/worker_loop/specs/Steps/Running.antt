@@ -20,23 +20,23 @@ pub record HasEvidence (w : WorkerState) : Type 0 where
   pub between : w.failed ≡ false → IsBetweenTurns w.post
   pub log : EachNext w.post.about.formula w.post.log.entries
 
--- how a turn left the worker: while it goes on there is a model at most for each candidate that is closed, and the first
-abbrev pub EndsBy : TurnEnd → WorkerState → Type 0
-EndsBy Going w = length w.post.models.models + open_count w.post.seat.view.seen w.post.about.formula.vars ≤ w.post.about.formula.vars + 1
-EndsBy Done w = (open_count w.post.seat.view.seen w.post.about.formula.vars ≡ 0) × (w.failed ≡ false)
-    × (length w.post.models.models ≤ w.post.about.formula.vars + 2)
-EndsBy Spent w = (learnt_count w.post.log.entries ≡ w.post.budget) × (w.failed ≡ false)
-    × (length w.post.models.models ≤ w.post.about.formula.vars + 2)
-EndsBy Memory w = length w.post.models.models ≤ w.post.about.formula.vars + 2
+-- how a turn left the worker: while it goes on there is a model at most for each candidate that is closed, and so many more
+abbrev pub EndsBy : ℕ → TurnEnd → WorkerState → Type 0
+EndsBy more Going w = length w.post.models.models + open_count w.post.seat.view.seen w.post.about.formula.vars ≤ w.post.about.formula.vars + more
+EndsBy more Done w = (open_count w.post.seat.view.seen w.post.about.formula.vars ≡ 0) × (w.failed ≡ false)
+    × (length w.post.models.models ≤ w.post.about.formula.vars + more + 1)
+EndsBy more Spent w = (learnt_count w.post.log.entries ≡ w.post.budget) × (w.failed ≡ false)
+    × (length w.post.models.models ≤ w.post.about.formula.vars + more + 1)
+EndsBy more Memory w = length w.post.models.models ≤ w.post.about.formula.vars + more + 1
 
 -- the worker took turns from the first state on, the last of which came to this
-pub record IsRunning (b : Board) (first now : WorkerState) (end : TurnEnd) : Type 0 where
+pub record IsRunning (b : Board) (most : ℕ) (first now : WorkerState) (end : TurnEnd) : Type 0 where
   pub sits : Sits b now.post.seat
   pub number : now.number ≡ first.number
   pub later : IsLater first.post now.post
   pub more : List Assignment
   pub models : now.post.models.models ≡ first.post.models.models ++ more
-  pub ends : EndsBy end now
+  pub ends : EndsBy most end now
 
 -- how many turns may follow
 abbrev pub turns_left : TurnEnd → ℕ → ℕ

@@ -10,7 +10,7 @@ use Rattle.worker_loop.proofs.worker.Worker.run.Goals as goal
 
 pub loop-end-init : goal.loop-end-init
 loop-end-init g c = record {
-  running = running_first c.args.words.now c.args.self c.requires.sits c.requires.few;
+  running = running_first c.args.words.now 2 c.args.self c.requires.sits c.requires.few;
   evidence = c.prove_evidence.ensures;
 }
 
@@ -26,8 +26,8 @@ loop-end-smaller g c =
 pub loop-end-preserved : goal.loop-end-preserved
 loop-end-preserved g c =
     let going : c.loop-end.end ≡ Going = c.is_going.ensures.0 c.loop-end-test.true in record {
-      running = running_next c.args.words.now c.args.self c.loop-end.worker c.turn-end.new.self c.turn-end.result
-          (subst (λ (e : TurnEnd). IsRunning c.args.words.now c.args.self c.loop-end.worker e) going c.loop-end.invariant.running)
+      running = running_next c.args.words.now 2 c.args.self c.loop-end.worker c.turn-end.new.self c.turn-end.result
+          (subst (λ (e : TurnEnd). IsRunning c.args.words.now 2 c.args.self c.loop-end.worker e) going c.loop-end.invariant.running)
           c.turn-end.ensures.sits c.prove_evidence-in-loop-end.ensures.view c.turn-end.ensures.later c.turn-end.ensures.stored c.turn-end.ensures.number
           c.turn-end.ensures.says c.turn-end.ensures.alive;
       evidence = c.prove_evidence-in-loop-end.ensures;

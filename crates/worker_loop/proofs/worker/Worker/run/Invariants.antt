@@ -8,7 +8,7 @@ use Rattle.worker_loop.proofs.worker.Worker.run.Given as goal
 
 -- the turns so far, of which the last came to `end`
 pub record IsAt (w v : WorkerState) (b : Board) (end : TurnEnd) : Type 0 where
-  pub running : IsRunning b w v end
+  pub running : IsRunning b 2 w v end
   pub evidence : HasEvidence v
 
 abbrev pub invariant-loop-end : goal.invariant-loop-end
