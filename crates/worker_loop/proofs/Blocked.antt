@@ -1,18 +1,18 @@
 -- What a core query's answers say of the block that it asked about.
-use Rattle.std.proofs.Common.{◌≡◌, ℕ, ◌<◌, ◌≤◌, true, List, Contains, refl, sym, ap, ◌∙◌, subst, arith}
-use Rattle.std.specs.Prelude.{All, map, not}
+use Rattle.std.proofs.Common.{ℕ, ◌<◌, ◌≤◌, List, sym, subst}
+use Rattle.std.specs.Prelude.{All, map}
 use Rattle.std.proofs.lemmas.List.Elements.{All-contains, All-map, All-weaker}
-use Rattle.cnf_core.specs.Literals.{Literal, Literals, Assignment, IsWithin, AreWithin, is_true, value_of}
+use Rattle.cnf_core.specs.Literals.{Literal, Literals, Assignment, IsWithin, AreWithin}
 use Rattle.board_core.specs.Subjects.{About}
-use Rattle.board_core.specs.Words.{open_at, times}
+use Rattle.board_core.specs.Words.{times}
 use Rattle.core_chunks.specs.Chunks.{IsBlockOf}
 use Rattle.assumption_solver.specs.Answers.{IsCoreFor}
 use Rattle.worker_loop.specs.declared.post.Post.{Post}
-use Rattle.worker_loop.specs.Steps.Moves.{IsOnward, IsUnmoved, IsClosed, IsDropped, against_phase}
+use Rattle.worker_loop.specs.Steps.Moves.{IsOnward, IsClosed, against_phase}
 use Rattle.worker_loop.specs.Steps.Following.{IsCoreOf}
 use Rattle.worker_loop.proofs.Words.{block_within}
-use Rattle.worker_loop.proofs.Blocks.{member_times, open-le-one}
-use Rattle.worker_loop.proofs.Replies.{member_map, all_opposite, core_of}
+use Rattle.worker_loop.proofs.Blocks.{member_times}
+use Rattle.worker_loop.proofs.Replies.{member_map, core_of}
 
 -- the assumptions are of variables of the formula
 pub within_against : (phases : Assignment) (ws block : List ℕ) (n size : ℕ) → IsBlockOf ws n size block → AreWithin n (map (against_phase phases) block)

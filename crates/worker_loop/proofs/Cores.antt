@@ -1,18 +1,17 @@
 -- What is known of the literals of a core.
-use Rattle.std.proofs.Common.{◌≡◌, ℕ, zero, suc, ◌+◌, ◌<◌, ◌≤◌, Bool, true, false, List, [], ◌∷◌, length, get_or, Contains, refl, sym, ap, ◌∙◌, subst, arith}
-use Rattle.std.specs.Prelude.{All, not}
+use Rattle.std.proofs.Common.{◌≡◌, ℕ, zero, suc, ◌+◌, ◌<◌, false, List, [], ◌∷◌, length, get_or, Contains, refl, sym, ap, ◌∙◌, subst, arith}
+use Rattle.std.specs.Prelude.{All}
 use Rattle.std.proofs.lemmas.List.Elements.{All-from_get_or, All-contains, All-weaker, Contains-get_or}
-use Rattle.cnf_core.specs.Literals.{Literal, Literals, Assignment, IsWithin, AreWithin, is_true, value_of}
+use Rattle.cnf_core.specs.Literals.{Literal, Literals, Assignment, IsWithin, AreWithin}
 use Rattle.cnf_core.specs.Formulas.{Cnf, true_literal, models}
 use Rattle.cnf_core.proofs.Models.{no_model}
 use Rattle.cnf_core.proofs.Lists.{Contains-head}
-use Rattle.lrat_log.specs.declared.kind.Kind.{Kind}
-use Rattle.lrat_log.specs.Entries.{Entry, Recorded, entry_at}
+use Rattle.lrat_log.specs.Entries.{Recorded}
 use Rattle.board_core.specs.Subjects.{About, candidate}
 use Rattle.board_core.specs.Words.{open_at}
 use Rattle.board_core.proofs.Ends.{candidate-lt}
 use Rattle.assumption_solver.specs.Units.{HasUnit, is_unit}
-use Rattle.assumption_solver.specs.Answers.{IsModelFor, HasFalse}
+use Rattle.assumption_solver.specs.Answers.{HasFalse}
 use Rattle.worker_loop.specs.declared.post.Post.{Post}
 use Rattle.worker_loop.specs.Evidence.{IsRooted}
 use Rattle.worker_loop.specs.Turns.{Goes}

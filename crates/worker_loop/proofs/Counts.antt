@@ -1,10 +1,8 @@
 -- How many candidates were open and are closed now.
-use Rattle.std.proofs.Common.{◌≡◌, ◌≢◌, ℕ, zero, suc, ◌+◌, ◌-◌, ◌/◌, ◌%◌, ◌<◌, ◌≤◌, ◌⊎◌, min, List, length, refl, sym, ap, ◌∙◌, subst, ⊎_elim, arith}
-use Rattle.std.specs.Prelude.{slice_index}
-use Rattle.std.specs.Int.{bit_at}
+use Rattle.std.proofs.Common.{◌≡◌, ◌≢◌, ℕ, zero, suc, ◌+◌, ◌/◌, ◌%◌, ◌<◌, ◌≤◌, min, List, length, refl, sym, subst, ⊎_elim, arith}
 use Rattle.std.proofs.lemmas.Bool.{cases_eq, cases_lt}
 use Rattle.board_core.specs.Subjects.{groups}
-use Rattle.board_core.specs.Words.{Earlier, open_at, times}
+use Rattle.board_core.specs.Words.{open_at, times}
 use Rattle.board_core.specs.Rules.{AreEarlier}
 use Rattle.board_core.proofs.Totals.{total, total_length}
 use Rattle.core_chunks.specs.Chunks.{open_count, IsBlockOf}

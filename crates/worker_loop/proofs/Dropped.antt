@@ -8,14 +8,14 @@ use Rattle.std.proofs.lemmas.Nat.Bits.{bit_at-lt}
 use Rattle.cnf_core.specs.Literals.{Literals}
 use Rattle.lrat_log.specs.Entries.{Entry, Recorded, is_import}
 use Rattle.board_core.specs.Subjects.{About, groups, candidate, Opposed}
-use Rattle.board_core.specs.Words.{alive, fixed, open_at, Earlier, without, cleared, var_if, vars_from, vars_of, times, named}
+use Rattle.board_core.specs.Words.{alive, open_at, Earlier, without, cleared, var_if, vars_from, vars_of, times, named}
 use Rattle.board_core.specs.Boards.{EachOf, stamped, top}
 use Rattle.board_core.specs.Rules.{AreEarlier, IsView, IsOnce}
 use Rattle.board_core.specs.declared.view.View.{View}
 use Rattle.board_core.proofs.Bits.{without_alive, without_fixed, cleared_bit, vars_from_more, vars_from_start, vars_of_upto}
 use Rattle.board_core.proofs.Steps.{earlier_refl, earlier_trans, alive_set, are_earlier_on}
 use Rattle.board_core.proofs.Totals.{few_drops}
-use Rattle.candidate_words.specs.Seats.{Board, Sitter, Sits, HasDropped}
+use Rattle.candidate_words.specs.Seats.{Sitter, HasDropped}
 use Rattle.model_store.specs.Stores.{Store}
 use Rattle.model_store.specs.Witnesses.{witness_in}
 use Rattle.model_store.specs.declared.witness.Witness.{Witness}

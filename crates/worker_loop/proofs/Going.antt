@@ -1,20 +1,18 @@
 -- When a turn may answer that it goes on.
-use Rattle.std.proofs.Common.{◌≡◌, ℕ, zero, suc, ◌+◌, ◌<◌, ◌≤◌, ◌⊎◌, min, Bool, true, false, List, [], ◌∷◌, ◌++◌, length, get_or, map, Contains, refl, sym, ap, ◌∙◌, subst, inl, inr, ⊎_elim, true≢false, arith}
-use Rattle.std.specs.Prelude.{All, not, IsTrue, if◌then◌else◌}
-use Rattle.std.proofs.lemmas.Bool.{cases_lt, cases_Bool, eq-eqb}
+use Rattle.std.proofs.Common.{◌≡◌, ℕ, ◌<◌, ◌≤◌, min, Bool, true, false, List, length, get_or, Contains, refl, sym, ap, ◌∙◌, subst, inl, inr, ⊎_elim, true≢false, arith}
+use Rattle.std.specs.Prelude.{All, not, if◌then◌else◌}
+use Rattle.std.proofs.lemmas.Bool.{cases_lt}
 use Rattle.std.proofs.lemmas.List.{get_or_append_left, length-append}
 use Rattle.std.proofs.lemmas.List.Elements.{All-contains, All-weaker}
-use Rattle.std.proofs.lemmas.List.Sums.{sum_by-cons}
-use Rattle.cnf_core.specs.Literals.{Literal, Literals, Assignment, is_true, negated, value_of}
+use Rattle.cnf_core.specs.Literals.{Literal, Literals, Assignment, is_true, value_of}
 use Rattle.cnf_core.specs.Formulas.{true_literal}
-use Rattle.lrat_log.specs.declared.kind.Kind.TheVariants.{Unit as UnitKind, Core}
 use Rattle.lrat_log.specs.Entries.{Entry, Recorded, entry_at, no_entry}
-use Rattle.board_core.specs.Subjects.{About, groups}
+use Rattle.board_core.specs.Subjects.{About}
 use Rattle.board_core.specs.Words.{open_at, times}
-use Rattle.board_core.specs.Rules.{AreEarlier, AreWords}
+use Rattle.board_core.specs.Rules.{AreWords}
 use Rattle.core_chunks.specs.Chunks.{open_count, IsBlockOf}
 use Rattle.worker_loop.specs.declared.post.Post.{Post}
-use Rattle.worker_loop.specs.Posts.{PostState, IsLonger}
+use Rattle.worker_loop.specs.Posts.{IsLonger}
 use Rattle.worker_loop.specs.Turns.{closed_count, WasOpen, IsRefuted, Goes}
 use Rattle.worker_loop.specs.Steps.Held.{state_of, IsPost}
 use Rattle.worker_loop.specs.Steps.Moves.{IsLoaded, IsOnward, IsClosed, IsOpenPhase}

@@ -14,7 +14,7 @@ use Rattle.lrat_log.specs.Entries.{learnt_count}
 use Rattle.lrat_log.specs.Laws.{learning_queries}
 use Rattle.board_core.specs.Subjects.{About}
 use Rattle.board_core.specs.Words.{Earlier, times, named}
-use Rattle.board_core.specs.Boards.{top, stamped, one_more, told, origin_view}
+use Rattle.board_core.specs.Boards.{top, stamped, one_more, origin_view}
 use Rattle.board_core.specs.Rules.{IsView, IsOnce}
 use Rattle.board_core.specs.declared.view.View.{View}
 use Rattle.board_core.specs.declared.view.Stamped.{Stamped}

@@ -1,19 +1,19 @@
 -- What the solver's answers say of candidates.
-use Rattle.std.proofs.Common.{◌≡◌, ℕ, zero, suc, ◌+◌, ◌<◌, ◌≤◌, ◌⊎◌, Bool, true, false, List, [], ◌∷◌, length, get_or, map, Contains, refl, sym, ap, ◌∙◌, subst, inl, inr, ⊎_elim, true≢false, arith}
-use Rattle.std.specs.Prelude.{All, not, IsTrue, if◌then◌else◌}
+use Rattle.std.proofs.Common.{◌≡◌, ℕ, ◌<◌, ◌≤◌, Bool, true, false, List, [], ◌∷◌, length, get_or, map, Contains, refl, sym, ap, ◌∙◌, subst, ⊎_elim, true≢false, arith}
+use Rattle.std.specs.Prelude.{All, not, if◌then◌else◌}
 use Rattle.std.proofs.lemmas.Bool.{cases_lt}
-use Rattle.std.proofs.lemmas.List.Elements.{All-from_get_or, All-contains, Contains-get_or}
+use Rattle.std.proofs.lemmas.List.Elements.{All-from_get_or, Contains-get_or}
 use Rattle.cnf_core.specs.Literals.{Literal, Literals, Assignment, is_true, negated, value_of}
 use Rattle.cnf_core.specs.Formulas.{true_literal}
 use Rattle.cnf_core.proofs.Lists.{Contains-head, Contains-tail, Contains-nil, Contains-cons_cases}
 use Rattle.lrat_log.specs.declared.kind.Kind.TheVariants.{Unit as UnitKind, Core}
-use Rattle.lrat_log.specs.Entries.{Recorded, entry_at}
-use Rattle.board_core.specs.Words.{open_at, times}
-use Rattle.assumption_solver.specs.Answers.{IsCoreFor, HasFalse}
+use Rattle.lrat_log.specs.Entries.{Recorded}
+use Rattle.board_core.specs.Words.{open_at}
+use Rattle.assumption_solver.specs.Answers.{IsCoreFor}
 use Rattle.assumption_solver.specs.Logs.{IsEntryAt}
 use Rattle.core_chunks.specs.Chunks.{IsBlockOf}
 use Rattle.worker_loop.specs.declared.post.Post.{Post}
-use Rattle.worker_loop.specs.Steps.Moves.{against_phase, IsOpenPhase, IsOnward}
+use Rattle.worker_loop.specs.Steps.Moves.{against_phase, IsOpenPhase}
 use Rattle.worker_loop.specs.Steps.Following.{IsCoreOf}
 use Rattle.worker_loop.proofs.Words.{times_member}
 use Rattle.worker_loop.proofs.Blocks.{open-le-one}

@@ -1,14 +1,11 @@
 -- A worker's turns one after another, and what it hands in.
-use Rattle.std.proofs.Common.{◌≡◌, ℕ, zero, suc, ◌+◌, ◌*◌, ◌<◌, ◌≤◌, ◌⊎◌, Bool, true, false, true≢false, List, [], ◌∷◌, ◌++◌, length, take, refl, sym, ap, ◌∙◌, subst, ⊎_elim, arith}
-use Rattle.std.proofs.lemmas.Bool.{cases_Bool}
+use Rattle.std.proofs.Common.{◌≡◌, ℕ, ◌+◌, ◌*◌, ◌<◌, ◌≤◌, ◌⊎◌, Bool, true, false, true≢false, List, [], ◌∷◌, ◌++◌, length, take, refl, sym, ap, ◌∙◌, subst, ⊎_elim, arith}
 use Rattle.std.proofs.lemmas.List.{append_assoc, append-nil, length-append}
 use Rattle.cnf_core.specs.Literals.{Assignment, Literals}
 use Rattle.lrat_log.specs.Entries.{Recorded, learnt_count}
 use Rattle.lrat_log.specs.Laws.{learning_queries, IsFull}
-use Rattle.lrat_log.specs.Kept.{EachNext}
 use Rattle.board_core.specs.Subjects.{About, groups}
-use Rattle.board_core.specs.Words.{open_at}
-use Rattle.board_core.specs.Rules.{AreEarlier, IsView}
+use Rattle.board_core.specs.Rules.{AreEarlier}
 use Rattle.candidate_words.specs.Seats.{Board, Sits, Sitter}
 use Rattle.model_store.specs.Stores.{Store}
 use Rattle.model_store.specs.declared.witness.Witness.{Witness}
@@ -18,9 +15,9 @@ use Rattle.worker_loop.specs.declared.endings.TurnEnd.{TurnEnd}
 use Rattle.worker_loop.specs.declared.endings.TurnEnd.TheVariants.{Going, Done, Spent, Memory}
 use Rattle.worker_loop.specs.declared.findings.Findings.{Findings}
 use Rattle.worker_loop.specs.Posts.{PostState, WorkerState, IsLater, HasStored}
-use Rattle.worker_loop.specs.Evidence.{IsTold, IsClocked, IsSettled, IsPaced}
-use Rattle.worker_loop.specs.Turns.{closed_count, Goes, IsWorked, IsDone, TurnSays}
-use Rattle.worker_loop.specs.Runs.{ByCause, UnlessMemory, IsFound}
+use Rattle.worker_loop.specs.Evidence.{IsTold, IsClocked, IsSettled}
+use Rattle.worker_loop.specs.Turns.{closed_count, Goes, IsWorked, TurnSays}
+use Rattle.worker_loop.specs.Runs.{HasFewModels, ByCause, UnlessMemory, IsFound}
 use Rattle.worker_loop.specs.Steps.Handing.{end_of, HandsIn}
 use Rattle.worker_loop.specs.Steps.Running.{HasEvidence, EndsBy, IsRunning, turns_left}
 use Rattle.worker_loop.proofs.Counts.{open_later, open_and_closed}
@@ -90,25 +87,32 @@ fewer_open b p q sits about own worked goes =
 
 ends_next : (b : Board) (most : ℕ) (u v : WorkerState) (end : TurnEnd) → EndsBy most Going u → Sits b v.post.seat → v.post.about ≡ u.post.about
     → v.post.seat.view.about ≡ v.post.about → length v.post.models.models ≤ length u.post.models.models + 1
+    → open_count v.post.seat.view.seen v.post.about.formula.vars ≤ open_count u.post.seat.view.seen u.post.about.formula.vars
     → TurnSays end u.post v → (v.failed ≡ true → end ≡ Memory) → EndsBy most end v
-ends_next b most u v Going before sits about own one says dead =
-    let less = fewer_open b u.post v.post sits about own says.0 says.1 in
+ends_next b most u v Going before sits about own one less says dead =
+    let fewer = fewer_open b u.post v.post sits about own says.0 says.1 in
     let vars : v.post.about.formula.vars ≡ u.post.about.formula.vars = ap (λ (a : About). a.formula.vars) about in
-    omega (arith, before, less, vars, one)
-ends_next b most u v Done before sits about own one says dead =
+    omega (arith, before, fewer, vars, one)
+ends_next b most u v Done before sits about own one less says dead =
     let vars : v.post.about.formula.vars ≡ u.post.about.formula.vars = ap (λ (a : About). a.formula.vars) about in
     let none : open_count v.post.seat.view.seen u.post.about.formula.vars ≡ 0 =
     ap (λ (ws : List ℕ). open_count ws u.post.about.formula.vars) says.seen ∙ says.none_open in (
       ap (open_count v.post.seat.view.seen) vars ∙ none,
       alive v.failed Done refl dead,
-      omega (arith, before, vars, one),
+      omega (arith, before, vars, one, less),
     )
-ends_next b most u v Spent before sits about own one says dead =
+ends_next b most u v Spent before sits about own one less says dead =
     let vars : v.post.about.formula.vars ≡ u.post.about.formula.vars = ap (λ (a : About). a.formula.vars) about in
-    (says.1, alive v.failed Spent refl dead, omega (arith, before, vars, one))
-ends_next b most u v Memory before sits about own one says dead =
+    (says.1, alive v.failed Spent refl dead, omega (arith, before, vars, one, less))
+ends_next b most u v Memory before sits about own one less says dead =
     let vars : v.post.about.formula.vars ≡ u.post.about.formula.vars = ap (λ (a : About). a.formula.vars) about in
-    omega (arith, before, vars, one)
+    omega (arith, before, vars, one, less)
+
+open_less : (p q : PostState) → IsLater p q → open_count q.seat.view.seen q.about.formula.vars ≤ open_count p.seat.view.seen p.about.formula.vars
+open_less p q later =
+    let n : ℕ = p.about.formula.vars in
+    subst (λ (a : About). open_count q.seat.view.seen a.formula.vars ≤ open_count p.seat.view.seen n) (sym later.about)
+    (count_later n n p.seat.view.seen q.seat.view.seen (omega arith) later.seen)
 
 -- a turn more
 pub running_next : (b : Board) (most : ℕ) (w u v : WorkerState) (end : TurnEnd) → IsRunning b most w u Going → Sits b v.post.seat → v.post.seat.view.about ≡ v.post.about
@@ -121,7 +125,7 @@ running_next b most w u v end before sits own later stored number says dead = re
   more = before.more ++ stored.more;
   models = stored.models ∙ ap (λ (ms : List Assignment). ms ++ stored.more) before.models ∙ append_assoc w.post.models.models before.more stored.more;
   ends = ends_next b most u v end before.ends sits later.about own
-      (omega (arith, ap length stored.models, length-append u.post.models.models stored.more, stored.one)) says dead;
+      (omega (arith, ap length stored.models, length-append u.post.models.models stored.more, stored.one)) (open_less u.post v.post later) says dead;
 }
 
 -- and fewer may follow
@@ -169,9 +173,9 @@ settled_of most v Memory evidence ends over = tt {0}
 
 few_of : (v : WorkerState) (end : TurnEnd) → EndsBy 2 end v → (end ≡ Going → ⊥) → length v.post.models.models ≤ v.post.about.formula.vars + 3
 few_of v Going ends over = absurd (over refl)
-few_of v Done ends over = ends.2
-few_of v Spent ends over = ends.2
-few_of v Memory ends over = ends
+few_of v Done ends over = omega (arith, ends.2)
+few_of v Spent ends over = omega (arith, ends.2)
+few_of v Memory ends over = omega (arith, ends)
 
 -- what is handed in after the last turn
 pub found : (b : Board) (w v : WorkerState) (f : Findings) (end : TurnEnd) → IsRunning b 2 w v end → (end ≡ Going → ⊥) → HasEvidence v
@@ -212,3 +216,32 @@ found b w v f end running over evidence hands =
         (subst (λ (ds : List Witness). IsTold b.about v.post.seat.view v.post.models v.post.log ds f.fixes.items) (sym hands.drops)
         (subst (λ (ls : Literals). IsTold b.about v.post.seat.view v.post.models v.post.log v.post.drops ls) (sym hands.fixes)
         (subst (λ (a : About). IsTold a v.post.seat.view v.post.models v.post.log v.post.drops v.post.fixes) about told)))))
+
+-- the worker that took easy turns, before the next one and behind one that was given up
+pub running_vain : (b : Board) (most : ℕ) (w u v : WorkerState) → IsRunning b most w u Going → Sits b v.post.seat → IsLater u.post v.post
+    → v.post.models ≡ u.post.models → v.number ≡ u.number → IsRunning b most w v Going
+running_vain b most w u v before sits later same number = record {
+  sits = sits;
+  number = number ∙ before.number;
+  later = later_trans w.post u.post v.post before.later later;
+  more = before.more;
+  models = ap (λ (s : Store). s.models) same ∙ before.models;
+  ends = omega (arith, before.ends, ap (λ (s : Store). length s.models) same, open_less u.post v.post later, ap (λ (a : About). a.formula.vars) later.about);
+}
+
+-- it has its first models
+pub running_front : (b : Board) (most : ℕ) (w v : WorkerState) (end : TurnEnd) → IsRunning b most w v end
+    → take (length w.post.models.models) v.post.models.models ≡ w.post.models.models
+running_front b most w v end is =
+    ap (take (length w.post.models.models)) is.models ∙ take_front w.post.models.models is.more
+
+pub running_few : (b : Board) (most : ℕ) (w v : WorkerState) (end : TurnEnd) → IsRunning b most w v end → HasFewModels (most + 1) v.post
+running_few b most w v Going is = omega (arith, is.ends)
+running_few b most w v Done is = is.ends.2
+running_few b most w v Spent is = is.ends.2
+running_few b most w v Memory is = is.ends
+
+pub running_done : (b : Board) (most : ℕ) (w v : WorkerState) (end : TurnEnd) → end ≡ Done → IsRunning b most w v end
+    → open_count v.post.seat.view.seen v.post.about.formula.vars ≡ 0
+running_done b most w v end done is =
+    let ends : EndsBy most Done v = subst (λ (e : TurnEnd). EndsBy most e v) done is.ends in ends.0

@@ -1,5 +1,5 @@
 -- Steps that store no model keep what was settled.
-use Rattle.std.proofs.Common.{◌≡◌, ℕ, List, sym, ap, subst}
+use Rattle.std.proofs.Common.{◌≡◌, sym, subst}
 use Rattle.board_core.specs.Subjects.{About}
 use Rattle.board_core.specs.Rules.{AreWords}
 use Rattle.model_store.specs.Stores.{Store}

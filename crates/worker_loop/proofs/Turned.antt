@@ -1,11 +1,10 @@
 -- A turn whose words showed something open, from its start to its end.
-use Rattle.std.proofs.Common.{◌≡◌, ℕ, zero, suc, inl, ◌+◌, ◌*◌, ◌<◌, ◌≤◌, Result, Ok, Err, min, List, length, refl, sym, ap, ◌∙◌, subst, arith}
+use Rattle.std.proofs.Common.{◌≡◌, ℕ, zero, suc, inl, ◌+◌, ◌*◌, ◌<◌, ◌≤◌, Result, Ok, Err, List, length, sym, ap, ◌∙◌, subst, arith}
 use Rattle.std.specs.Prelude.{Option, Some, None, IfOk, OnOk, IfSome, IfNone}
 use Rattle.cnf_core.specs.declared.memory.NoMemory.{NoMemory}
 use Rattle.lrat_log.specs.Entries.{Recorded, learnt_count}
 use Rattle.lrat_log.specs.Laws.{learning_queries}
 use Rattle.board_core.specs.Subjects.{About, groups}
-use Rattle.board_core.specs.Words.{open_at}
 use Rattle.board_core.specs.Rules.{AreEarlier, AreWords}
 use Rattle.candidate_words.specs.Seats.{Sitter}
 use Rattle.model_store.specs.Stores.{Store}
@@ -14,7 +13,7 @@ use Rattle.assumption_solver.specs.SolverStates.{SolverState}
 use Rattle.worker_loop.specs.declared.endings.TurnEnd.{TurnEnd}
 use Rattle.worker_loop.specs.declared.endings.TurnEnd.TheVariants.{Going, Done, Spent, Memory}
 use Rattle.worker_loop.specs.declared.post.Post.{Post}
-use Rattle.worker_loop.specs.Posts.{PostState, IsLater}
+use Rattle.worker_loop.specs.Posts.{IsLater}
 use Rattle.worker_loop.specs.Evidence.{IsSettled, IsPaced}
 use Rattle.worker_loop.specs.Turns.{closed_count, Goes, IsWorked}
 use Rattle.worker_loop.specs.Steps.Held.{IsPost, IsBetweenTurns, state_of}

@@ -1,5 +1,5 @@
 -- What a walk leaves of a model, for the drops by it.
-use Rattle.std.proofs.Common.{◌≡◌, ℕ, ◌<◌, ◌≤◌, ◌⊎◌, List, Contains, sym, ◌∙◌, subst, ⊎_elim, arith}
+use Rattle.std.proofs.Common.{◌≡◌, ℕ, ◌<◌, List, sym, ◌∙◌, subst, ⊎_elim, arith}
 use Rattle.std.specs.Prelude.{not}
 use Rattle.cnf_core.specs.Literals.{Assignment, value_of}
 use Rattle.board_core.specs.Words.{open_at}

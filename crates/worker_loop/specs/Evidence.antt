@@ -1,5 +1,5 @@
 -- The evidence of what a worker has won, and the clocks of its log.
-use Rattle.std.specs.Prelude.{◌≡◌, ℕ, ◌+◌, ◌*◌, ◌<◌, ◌≤◌, ◌⊎◌, false, IsTrue, List, [], ◌∷◌, map, length, All, Contains}
+use Rattle.std.specs.Prelude.{◌≡◌, ℕ, ◌+◌, ◌*◌, ◌<◌, ◌≤◌, ◌⊎◌, IsTrue, List, [], ◌∷◌, map, length, All, Contains}
 use Rattle.cnf_core.specs.Literals.{Literal, Literals, value_of}
 use Rattle.cnf_core.specs.Formulas.{IsAgainst, true_literal}
 use Rattle.lrat_log.specs.declared.kind.Kind.TheVariants.{Unit as UnitKind}

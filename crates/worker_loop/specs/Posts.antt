@@ -1,5 +1,5 @@
 -- What is seen of a worker.
-use Rattle.std.specs.Prelude.{◌≡◌, ℕ, ◌+◌, ◌<◌, ◌≤◌, Bool, false, List, [], ◌++◌, length, All}
+use Rattle.std.specs.Prelude.{◌≡◌, ℕ, ◌≤◌, Bool, false, List, [], ◌++◌, length, All}
 use Rattle.cnf_core.specs.Literals.{Literals, Assignment}
 use Rattle.lrat_log.specs.Entries.{Entry, Recorded, is_import, learnt_count}
 use Rattle.lrat_log.specs.Laws.{learning_queries}

@@ -1,15 +1,17 @@
 -- What a worker hands in at its end.
-use Rattle.std.specs.Prelude.{◌≡◌, ℕ, ◌+◌, ◌≤◌, List, length, take}
+use Rattle.std.specs.Prelude.{◌≡◌, ℕ, ◌+◌, ◌≤◌, length, take}
 use Rattle.lrat_log.specs.Laws.{IsFull}
-use Rattle.model_store.specs.Stores.{Store}
-use Rattle.board_core.specs.Subjects.{About}
 use Rattle.core_chunks.specs.Chunks.{open_count}
-use Rattle.candidate_words.specs.Seats.{Board, Sitter, Sits}
+use Rattle.candidate_words.specs.Seats.{Board, Sits}
 use Rattle.worker_loop.specs.declared.endings.End.{End}
 use Rattle.worker_loop.specs.declared.endings.End.TheVariants.{Done, Spent, Memory}
 use Rattle.worker_loop.specs.declared.findings.Findings.{Findings}
 use Rattle.worker_loop.specs.Posts.{PostState, WorkerState}
 use Rattle.worker_loop.specs.Evidence.{IsTold, IsSettled, IsClocked}
+
+-- there is at most a model for each candidate that isn't seen open, and so many more
+abbrev pub HasFewModels : ℕ → PostState → Type 0
+HasFewModels more p = length p.models.models + open_count p.seat.view.seen p.about.formula.vars ≤ p.about.formula.vars + more
 
 -- why it ended: nothing was seen open by the last turn, or its log is full for its budget
 abbrev pub ByCause : End → PostState → Findings → Type 0

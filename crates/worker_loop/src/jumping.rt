@@ -64,6 +64,11 @@ impl<'f> Jumper<'f> {
         }
     }
 
+    /// How many literals the formula's clauses have.
+    pub fn literals(&self) -> u64 {
+        self.literals
+    }
+
     /// A core query about so many candidates begins, the first of a turn.
     pub fn begin_core_query(&mut self, solver: &Solver, candidates: usize)
         ensures { self.new ≡ self.old }

@@ -36,6 +36,12 @@ const DOSE: u32 = 1024;
 /// A core query is easy that has at most so many conflicts.
 const EASY: u64 = 100;
 
+/// So much work, propagations and variables of a turn, pays for a worker more: for each literal and variable of the formula,
+/// and at least.
+const AHEAD: u64 = 10;
+
+const LEAST_AHEAD: u64 = 200_000;
+
 /// A jump is tried over at most so many open candidates.
 const MOST_LEFT: usize = 512;
 
@@ -109,6 +115,23 @@ impl<'f, 'r> Post<'f, 'r> {
         } else {
             Ok(0)
         }
+    }
+
+    /// So much work the worker may do before there are others. With one block of candidates they begin at once.
+    pub fn most_ahead(&self) -> u64 {
+        let vars = self.question.vars();
+        if vars <= BLOCK {
+            return 0;
+        }
+        let size = self.jumper.literals().saturating_add(u64::from(vars));
+        size.saturating_mul(AHEAD).max(LEAST_AHEAD)
+    }
+
+    /// How much work the solver and so many turns were.
+    pub fn work_after(&self, turns: u64) -> u64 {
+        turns
+            .saturating_mul(u64::from(self.question.vars()))
+            .saturating_add(self.solver.counts().propagations)
     }
 
     /// The first open candidates of the loaded words, at most so many, with the groups taken from this one on.

@@ -1,4 +1,4 @@
-ghost use Rattle.std.specs.Prelude.{◌≡◌, ◌^◌, ◌<◌, ◌≤◌, length, IfOk, IfErr, IfSome, OnOk, OnErr, true, false, ℕ};
+ghost use Rattle.std.specs.Prelude.{◌≡◌, ◌^◌, ◌<◌, ◌≤◌, length, take, IsTrue, IfOk, IfErr, IfSome, IfNone, OnOk, OnErr, true, false, ℕ};
 ghost use Rattle.cnf_core.specs.Formulas.{IsModel};
 ghost use Rattle.board_core.specs.Words.{open_at};
 ghost use Rattle.board_core.specs.Rules.{IsView};
@@ -7,7 +7,8 @@ ghost use Rattle.model_store.specs.Stores.{with_model};
 ghost use Rattle.worker_loop.specs.Posts.{IsLater, HasStored, IsFirst, IsUnused, IsNewPost};
 ghost use Rattle.worker_loop.specs.Evidence.{IsKeeping};
 ghost use Rattle.worker_loop.specs.Turns.{TurnSays, LoadedOnce};
-ghost use Rattle.worker_loop.specs.Runs.{IsFound};
+ghost use Rattle.worker_loop.specs.Runs.{HasFewModels, IsFound};
+ghost use Rattle.core_chunks.specs.Chunks.{open_count};
 ghost use Rattle.worker_loop.specs.Steps.Running.{HasEvidence};
 ghost use Rattle.worker_loop.specs.Steps.Handing.{HandsIn};
 ghost use Rattle.worker_loop.specs.declared.endings.TurnEnd.{TurnEnd};
@@ -146,10 +147,63 @@ impl<'f, 'r> Worker<'f, 'r> {
         }
     }
 
+    /// Takes turns before there are other workers, as long as they are easy: until the solver doesn't answer a core query
+    /// within a few conflicts, or has worked as much as other workers would be worth. Over one block of candidates there is
+    /// none. Answers whether nothing was open in the end.
+    pub fn run_ahead(&mut self, words: &Words) -> bool
+        requires sits { Sits words.now self.old.post.seat }
+        requires few { HasFewModels 1 self.old.post }
+        ensures sits { Sits words.now self.new.post.seat }
+        ensures later { IsLater self.old.post self.new.post }
+        ensures number { self.new.number ≡ self.old.number }
+        ensures first { take (length self.old.post.models.models) self.new.post.models.models ≡ self.old.post.models.models }
+        ensures few { HasFewModels 2 self.new.post }
+        ensures done { IsTrue result
+            → open_count self.new.post.seat.view.seen self.new.post.about.formula.vars ≡ 0 }
+    {
+        let most = self.post.most_ahead();
+        let mut end = TurnEnd::Going;
+        let mut turns: u64 = 0;
+        self.prove_evidence();
+        while end.is_going() && self.post.work_after(turns) < most {
+            match self.easy_turn(words) {
+                Some(next) => end = next,
+                None => return false,
+            }
+            self.prove_evidence();
+            turns = turns.saturating_add(1);
+        }
+        end == TurnEnd::Done
+    }
+
+    /// Takes a turn, where the core query has its answer within a few conflicts.
+    fn easy_turn(&mut self, words: &Words) -> Option<TurnEnd>
+        requires sits { Sits words.now self.old.post.seat }
+        requires room { length self.old.post.models.models < 2 ^ 21 }
+        ensures sits { Sits words.now self.new.post.seat }
+        ensures later { IsLater self.old.post self.new.post }
+        ensures stored { HasStored self.old.post.models self.new.post.models }
+        ensures number { self.new.number ≡ self.old.number }
+        ensures says { IfSome result (λ end. TurnSays end self.old.post self.new) }
+        ensures vain { IfNone result (self.new.post.models ≡ self.old.post.models) }
+        ensures alive { IfSome result (λ end. self.new.failed ≡ true → end ≡ TurnEnd.Memory) }
+    {
+        if self.failed {
+            return Some(TurnEnd::Memory);
+        }
+        match self.post.easy_turn(words, &mut self.chooser) {
+            Ok(taken) => taken,
+            Err(NoMemory) => {
+                self.failed = true;
+                Some(TurnEnd::Memory)
+            }
+        }
+    }
+
     /// Passes the gate and takes a turn, until one doesn't answer `Going`. It waits for nobody.
     pub fn run<G: Gate>(self, words: &Words, gate: &G) -> Findings<'f>
         requires sits { Sits words.now self.post.seat }
-        requires few { length self.post.models.models + open_count self.post.seat.view.seen self.post.about.formula.vars ≤ self.post.about.formula.vars + 2 }
+        requires few { HasFewModels 2 self.post }
         ensures { IsFound words.now self.entry result }
     {
         let mut worker = self;

@@ -1,5 +1,5 @@
 -- What a query in slices comes to.
-use Rattle.std.specs.Prelude.{◌≡◌, ℕ, All}
+use Rattle.std.specs.Prelude.{All}
 use Rattle.cnf_core.specs.Literals.{Literals}
 use Rattle.assumption_solver.specs.Answers.{FoundSays}
 use Rattle.worker_loop.specs.declared.asking.Asked.{Asked}

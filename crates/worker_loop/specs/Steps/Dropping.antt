@@ -1,15 +1,14 @@
 -- Masks of a group's candidates, and how a post moves by dropping them.
-use Rattle.std.specs.Prelude.{◌≡◌, ◌↔◌, ℕ, suc, ◌+◌, ◌*◌, ◌<◌, ◌≤◌, ◌⊎◌, not, Bool, true, false, length, Contains, IsTrue}
+use Rattle.std.specs.Prelude.{◌≡◌, ℕ, suc, ◌+◌, ◌*◌, ◌<◌, ◌⊎◌, not, Bool, length}
 use Rattle.std.specs.Int.{bit_at}
 use Rattle.cnf_core.specs.Literals.{Assignment, value_of}
-use Rattle.cnf_core.specs.Formulas.{IsModel, true_literal}
+use Rattle.cnf_core.specs.Formulas.{IsModel}
 use Rattle.board_core.specs.Subjects.{About, candidate, groups}
 use Rattle.board_core.specs.Words.{open_at}
 use Rattle.model_check.specs.Flips.{flipped}
 use Rattle.flip_literals.specs.Critical.{MarksCritical}
 use Rattle.model_store.specs.Stores.{Store, model_at}
 use Rattle.model_store.specs.declared.witness.Witness.{Witness}
-use Rattle.assumption_solver.specs.Units.{HasUnit}
 use Rattle.worker_loop.specs.declared.post.Post.{Post}
 use Rattle.worker_loop.specs.declared.dropping.Flips.{Flips}
 use Rattle.worker_loop.specs.declared.dropping.Flips.TheVariants.{None as NoFlips, Marked, Listed}

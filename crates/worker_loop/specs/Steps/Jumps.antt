@@ -2,7 +2,7 @@
 use Rattle.std.specs.Prelude.{◌≡◌, ℕ, ◌<◌, ◌≤◌, ◌⊎◌, not, List, length, filter, min}
 use Rattle.cnf_core.specs.Literals.{Literals, Assignment, is_true, value_of}
 use Rattle.cnf_core.specs.Formulas.{Cnf, IsModel}
-use Rattle.local_search.specs.Cleaned.{Tabled, IsTabled}
+use Rattle.local_search.specs.Cleaned.{Tabled}
 use Rattle.local_search.specs.Searches.{IsSearchOf, IsDescentOf}
 use Rattle.local_search.specs.declared.search.LocalSearch.{LocalSearch}
 use Rattle.local_search.specs.declared.descend.Descent.{Descent}

@@ -1,19 +1,18 @@
 -- How a post moves by the steps of a turn.
-use Rattle.std.specs.Prelude.{◌≡◌, ℕ, zero, suc, ◌+◌, ◌-◌, ◌*◌, ◌<◌, ◌≤◌, ◌⊎◌, not, Bool, List, length, All, Contains, slice_index}
+use Rattle.std.specs.Prelude.{◌≡◌, ℕ, zero, suc, ◌+◌, ◌-◌, ◌*◌, ◌<◌, ◌≤◌, ◌⊎◌, not, List, slice_index}
 use Rattle.std.specs.Int.{bit_at}
-use Rattle.cnf_core.specs.Literals.{Literal, Literals, Assignment, negated, value_of}
-use Rattle.cnf_core.specs.Formulas.{IsModel, true_literal}
+use Rattle.cnf_core.specs.Literals.{Literal, Assignment, negated, value_of}
+use Rattle.cnf_core.specs.Formulas.{true_literal}
 use Rattle.lrat_log.specs.Entries.{Recorded, learnt_count}
 use Rattle.lrat_log.specs.Laws.{learning_queries}
-use Rattle.board_core.specs.Subjects.{About, groups, candidate}
+use Rattle.board_core.specs.Subjects.{groups}
 use Rattle.board_core.specs.Words.{fixed, open_at}
 use Rattle.board_core.specs.Rules.{AreEarlier}
-use Rattle.board_core.specs.declared.view.View.{View}
 use Rattle.candidate_words.specs.Seats.{Board, Sits}
 use Rattle.assumption_solver.specs.Units.{HasUnit}
 use Rattle.core_chunks.specs.Chunks.{open_count, IsBlockOf}
 use Rattle.worker_loop.specs.declared.post.Post.{Post}
-use Rattle.worker_loop.specs.Posts.{PostState, IsLonger}
+use Rattle.worker_loop.specs.Posts.{IsLonger}
 use Rattle.worker_loop.specs.Evidence.{IsSettled}
 use Rattle.worker_loop.specs.Turns.{AreTaken}
 use Rattle.worker_loop.specs.Steps.Held.{IsPost}

@@ -1,5 +1,5 @@
 -- What a worker keeps while it takes its turns.
-use Rattle.std.specs.Prelude.{◌≡◌, ℕ, ◌+◌, ◌^◌, ◌≤◌, false, true, Bool, List, ◌++◌, length}
+use Rattle.std.specs.Prelude.{◌≡◌, ℕ, ◌+◌, ◌^◌, ◌≤◌, false, List, ◌++◌}
 use Rattle.cnf_core.specs.Literals.{Assignment}
 use Rattle.lrat_log.specs.Entries.{learnt_count}
 use Rattle.lrat_log.specs.Kept.{EachNext}
@@ -8,6 +8,7 @@ use Rattle.candidate_words.specs.Seats.{Board, Sits}
 use Rattle.worker_loop.specs.declared.endings.TurnEnd.{TurnEnd}
 use Rattle.worker_loop.specs.declared.endings.TurnEnd.TheVariants.{Going, Done, Spent, Memory}
 use Rattle.worker_loop.specs.Posts.{WorkerState, IsLater}
+use Rattle.worker_loop.specs.Runs.{HasFewModels}
 use Rattle.worker_loop.specs.Evidence.{IsTold, IsClocked}
 use Rattle.worker_loop.specs.Steps.Held.{IsBetweenTurns}
 
@@ -20,14 +21,12 @@ pub record HasEvidence (w : WorkerState) : Type 0 where
   pub between : w.failed ≡ false → IsBetweenTurns w.post
   pub log : EachNext w.post.about.formula w.post.log.entries
 
--- how a turn left the worker: while it goes on there is a model at most for each candidate that is closed, and so many more
+-- how a turn left the worker
 abbrev pub EndsBy : ℕ → TurnEnd → WorkerState → Type 0
-EndsBy more Going w = length w.post.models.models + open_count w.post.seat.view.seen w.post.about.formula.vars ≤ w.post.about.formula.vars + more
-EndsBy more Done w = (open_count w.post.seat.view.seen w.post.about.formula.vars ≡ 0) × (w.failed ≡ false)
-    × (length w.post.models.models ≤ w.post.about.formula.vars + more + 1)
-EndsBy more Spent w = (learnt_count w.post.log.entries ≡ w.post.budget) × (w.failed ≡ false)
-    × (length w.post.models.models ≤ w.post.about.formula.vars + more + 1)
-EndsBy more Memory w = length w.post.models.models ≤ w.post.about.formula.vars + more + 1
+EndsBy more Going w = HasFewModels more w.post
+EndsBy more Done w = (open_count w.post.seat.view.seen w.post.about.formula.vars ≡ 0) × (w.failed ≡ false) × HasFewModels (more + 1) w.post
+EndsBy more Spent w = (learnt_count w.post.log.entries ≡ w.post.budget) × (w.failed ≡ false) × HasFewModels (more + 1) w.post
+EndsBy more Memory w = HasFewModels (more + 1) w.post
 
 -- the worker took turns from the first state on, the last of which came to this
 pub record IsRunning (b : Board) (most : ℕ) (first now : WorkerState) (end : TurnEnd) : Type 0 where

@@ -1,8 +1,7 @@
-use Rattle.std.proofs.Common.{rules, ◌≡◌, ℕ, ◌+◌, ◌<◌, ◌≤◌, List, length, sym, subst, ap, ◌∙◌, arith}
-use Rattle.std.specs.Prelude.{All, min}
-use Rattle.core_chunks.specs.Chunks.{open_count}
+use Rattle.std.proofs.Common.{rules, ℕ, ◌<◌, ◌≤◌, List, length, sym, subst}
+use Rattle.std.specs.Prelude.{All}
 use Rattle.worker_loop.proofs.Words.{block_within}
-use Rattle.worker_loop.proofs.Turned.{HasTurned, turn_later, tried_says, tried_between, done_between, has_turned}
+use Rattle.worker_loop.proofs.Turned.{turn_later, tried_says, tried_between, done_between, has_turned}
 use Rattle.worker_loop.proofs.post.Post.easy_turn.Goals as goal
 
 pub returns-then-is_empty-clause-between : goal.returns-then-is_empty-clause-between

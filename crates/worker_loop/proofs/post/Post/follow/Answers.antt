@@ -1,4 +1,4 @@
-use Rattle.std.proofs.Common.{◌≡◌, [], List, sym, subst}
+use Rattle.std.proofs.Common.{[], sym, subst}
 use Rattle.std.specs.Prelude.{map}
 use Rattle.cnf_core.specs.Literals.{Literals}
 use Rattle.assumption_solver.specs.Answers.{IsModelFor, IsCoreFor, FoundSays}

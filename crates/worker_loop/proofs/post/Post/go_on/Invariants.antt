@@ -1,4 +1,4 @@
-use Rattle.std.specs.Prelude.{◌-◌, ◌≤◌}
+use Rattle.std.specs.Prelude.{◌-◌}
 use Rattle.lrat_log.specs.Entries.{learnt_count}
 use Rattle.worker_loop.proofs.Slices.{IsSlicing}
 use Rattle.worker_loop.proofs.post.Post.go_on.Given as goal

@@ -1,7 +1,5 @@
-use Rattle.std.proofs.Common.{◌≡◌, ◌∙◌, sym, subst}
-use Rattle.std.specs.Prelude.{map}
+use Rattle.std.proofs.Common.{◌∙◌, sym, subst}
 use Rattle.cnf_core.specs.Literals.{Literals, AreWithin}
-use Rattle.worker_loop.specs.Steps.Moves.{against_phase}
 use Rattle.worker_loop.proofs.Words.{block_within}
 use Rattle.worker_loop.proofs.Blocked.{within_against}
 use Rattle.worker_loop.proofs.Slices.{post_queried, looking_refl, looked}

@@ -1,13 +1,11 @@
-use Rattle.std.proofs.Common.{◌≡◌, ℕ, ◌+◌, ◌≤◌, List, sym, subst, ◌∙◌, arith}
+use Rattle.std.proofs.Common.{◌≡◌, ℕ, ◌+◌, sym, subst, ◌∙◌, arith}
 use Rattle.std.specs.Prelude.{map}
-use Rattle.std.proofs.lemmas.Result.{on_ok_weaker}
 use Rattle.cnf_core.specs.Literals.{Literals, AreWithin}
 use Rattle.board_core.specs.Subjects.{About}
 use Rattle.assumption_solver.specs.SolverStates.{SolverState}
-use Rattle.worker_loop.specs.declared.post.Post.{Post}
 use Rattle.worker_loop.specs.Steps.Moves.{IsAskedTimes, IsOnward, against_phase, queries_of}
 use Rattle.worker_loop.proofs.Words.{block_within}
-use Rattle.worker_loop.proofs.Blocked.{within_against, block_later}
+use Rattle.worker_loop.proofs.Blocked.{within_against}
 use Rattle.worker_loop.proofs.Onward.{onward_trans}
 use Rattle.worker_loop.proofs.Queries.{asked_after, asked_more, queries_few}
 use Rattle.worker_loop.proofs.Turning.{learnt_longer}

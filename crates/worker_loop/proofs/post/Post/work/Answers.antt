@@ -1,4 +1,4 @@
-use Rattle.std.proofs.Common.{◌≡◌, ◌∙◌, subst}
+use Rattle.std.proofs.Common.{◌∙◌, subst}
 use Rattle.std.specs.Prelude.{Option, IfNone}
 use Rattle.std.proofs.lemmas.Result.{on_ok_weaker}
 use Rattle.worker_loop.specs.declared.endings.TurnEnd.{TurnEnd}
@@ -7,7 +7,6 @@ use Rattle.worker_loop.proofs.Onward.{onward_trans}
 use Rattle.worker_loop.proofs.Queries.{asked_after}
 use Rattle.worker_loop.proofs.Turning.{learnt_longer}
 use Rattle.worker_loop.proofs.Settling.{settled_onward}
-use Rattle.worker_loop.proofs.Blocked.{block_later}
 use Rattle.worker_loop.proofs.post.Post.work.Goals as goal
 
 pub returns-in_err-chosen-in-None-clause-onward : goal.returns-in_err-chosen-in-None-clause-onward

@@ -1,9 +1,9 @@
-use Rattle.std.proofs.Common.{◌≡◌, ℕ, suc, ◌+◌, ◌<◌, ◌≤◌, true≢false, sym, ◌∙◌, subst}
+use Rattle.std.proofs.Common.{◌≡◌, suc, ◌≤◌, true≢false, sym, ◌∙◌, subst}
 use Rattle.core_chunks.specs.Chunks.{open_count}
 use Rattle.worker_loop.specs.declared.endings.End.{End}
 use Rattle.worker_loop.specs.declared.endings.TurnEnd.{TurnEnd}
 use Rattle.worker_loop.specs.declared.endings.TurnEnd.TheVariants.{Going}
-use Rattle.worker_loop.specs.Steps.Handing.{end_of, HandsIn}
+use Rattle.worker_loop.specs.Steps.Handing.{HandsIn}
 use Rattle.worker_loop.specs.Steps.Running.{IsRunning, turns_left}
 use Rattle.worker_loop.proofs.Running.{running_first, running_next, left_next, found}
 use Rattle.worker_loop.proofs.worker.Worker.run.Goals as goal

@@ -1,4 +1,3 @@
-use Rattle.std.proofs.Common.{◌≡◌, ℕ, ◌+◌, ◌<◌}
 use Rattle.candidate_words.specs.Seats.{Board}
 use Rattle.worker_loop.specs.Posts.{WorkerState}
 use Rattle.worker_loop.specs.declared.endings.TurnEnd.{TurnEnd}
