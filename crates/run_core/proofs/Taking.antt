@@ -276,7 +276,7 @@ may_take_all b workers budget below g f is home more few vars = record {
   seat = may_take b workers budget below g f.seat is more home.found.sits (home_number b budget below f home);
   formula = home.found.told.store ∙ sym is.store;
   room =
-      let most : (b.about.formula.vars + 2) * below ≤ (b.about.formula.vars + 2) * 15 = mul-le-mul_left (b.about.formula.vars + 2) (omega arith) in
+      let most : (b.about.formula.vars + 3) * below ≤ (b.about.formula.vars + 3) * 15 = mul-le-mul_left (b.about.formula.vars + 3) (omega arith) in
       omega (arith, is.few, home.found.few, most);
   drops = All-weaker (IsWitness b.about f.models) (IsInRange f.models) (λ w one. one.range) f.drops.items home.found.told.witnessed;
 }

@@ -1,9 +1,11 @@
 //! The table and the workers of a run.
-ghost use Rattle.std.specs.Prelude.{◌≡◌, ◌+◌, ◌^◌, ◌<◌, ◌≤◌, [], IfOk, OnOk};
+ghost use Rattle.std.specs.Prelude.{◌≡◌, ◌+◌, ◌^◌, ◌<◌, ◌≤◌, [], IsTrue, IfOk, OnOk, slice_index_or};
 ghost use Rattle.std.specs.Vec.Iter.{into_iter_len};
 ghost use Rattle.cnf_core.specs.Formulas.{IsModel};
+ghost use Rattle.core_chunks.specs.Chunks.{open_count};
 ghost use Rattle.worker_loop.specs.Posts.{IsFirst};
-ghost use Rattle.run_core.specs.Steps.Crews.{IsRootAt, IsAtRoot, IsReady, IsVacant, IsStaffed, AreVacant, IsHiring, IsCrew, IsReturned};
+ghost use Rattle.worker_loop.specs.Runs.{HasFewModels};
+ghost use Rattle.run_core.specs.Steps.Crews.{IsRootAt, IsAtRoot, IsReady, IsVacant, IsStaffed, AreVacant, IsHiring, IsCrew, IsReturned, IsClosed};
 
 use crate::RunSettings;
 use crate::slot::{Recruit, Slot, run_in_turn, run_on_threads};
@@ -27,7 +29,8 @@ pub(crate) struct Crew<'f, 'r> {
 
 impl<'f, 'r> Crew<'f, 'r> {
     /// Opens the table, splits a seat for each worker but the first, and makes that. It has the solver and the chooser that
-    /// found the first model, and absorbs it. The others are called to their seats, and each is made where it runs.
+    /// found the first model, absorbs it, and works ahead of the others. These are called to their seats if something is
+    /// open then, and each is made where it runs.
     #[tactic(auto, using(crate::proofs::Splits::root_opened))]
     pub fn hire(
         alloc: Global,
@@ -55,12 +58,15 @@ impl<'f, 'r> Crew<'f, 'r> {
             words,
             slots,
         };
-        crew.hire_first(alloc, question, first, root, chooser)?;
+        let is_done = crew.hire_first(alloc, question, first, root, chooser)?;
+        if is_done {
+            return Ok(crew);
+        }
         crew.call_others(others);
         Ok(crew)
     }
 
-    /// Makes the first worker at the root.
+    /// Makes the first worker at the root. Answers whether it has closed all ahead of the others.
     fn hire_first(
         &mut self,
         alloc: Global,
@@ -68,7 +74,7 @@ impl<'f, 'r> Crew<'f, 'r> {
         solver: Solver<'f>,
         root: Seat,
         chooser: Box<dyn Chooser>,
-    ) -> Result<(), NoMemory>
+    ) -> Result<bool, NoMemory>
         requires workers { 1 ≤ self.old.settings.workers }
         requires budget { (1 ≤ self.old.settings.budget) × (self.old.settings.budget ≤ 2 ^ 40) }
         requires about { self.old.words.about ≡ question.now }
@@ -79,10 +85,12 @@ impl<'f, 'r> Crew<'f, 'r> {
         ensures settings { self.new.settings ≡ self.old.settings }
         ensures words { self.new.words ≡ self.old.words }
         ensures hiring { OnOk result (IsHiring self.old.words self.old.settings.workers self.old.settings.budget 1 self.new.slots.items) }
+        ensures done { IfOk result (λ done. IsTrue done → (d : _) → IsClosed (slice_index_or self.new.slots.items 0 d)) }
     {
-        let worker = self.first_worker(alloc, question, solver, root, chooser)?;
+        let mut worker = self.first_worker(alloc, question, solver, root, chooser)?;
+        let is_done = self.run_ahead(&mut worker);
         self.slots[0] = Slot::Ready(worker);
-        Ok(())
+        Ok(is_done)
     }
 
     /// The worker at the root, which has absorbed the first model.
@@ -102,6 +110,7 @@ impl<'f, 'r> Crew<'f, 'r> {
         requires root { IsRootAt self.now.words self.now.settings.workers root }
         ensures ready { IfOk result (IsReady self.now.words self.now.settings.budget 0) }
         ensures first { IfOk result (IsAtRoot question.now self.now.settings.workers) }
+        ensures few { IfOk result (λ worker. HasFewModels 1 worker.post) }
     {
         let share = Share {
             number: 0,
@@ -114,6 +123,22 @@ impl<'f, 'r> Crew<'f, 'r> {
         };
         worker.absorb_model(&self.words, question.phases())?;
         Ok(worker)
+    }
+
+    /// Has the first of several workers work ahead of the others. Answers whether nothing was open in the end.
+    fn run_ahead(&self, worker: &mut Worker<'f, 'r>) -> bool
+        requires ready { IsReady self.now.words self.now.settings.budget 0 worker.old }
+        requires first { IsAtRoot self.now.words.about self.now.settings.workers worker.old }
+        requires few { HasFewModels 1 worker.old.post }
+        ensures ready { IsReady self.now.words self.now.settings.budget 0 worker.new }
+        ensures first { IsAtRoot self.now.words.about self.now.settings.workers worker.new }
+        ensures done { IsTrue result
+            → open_count worker.new.post.seat.view.seen worker.new.post.about.formula.vars ≡ 0 }
+    {
+        if self.settings.workers == 1 {
+            return false;
+        }
+        worker.run_ahead(&self.words)
     }
 
     /// Calls the other workers to their seats.

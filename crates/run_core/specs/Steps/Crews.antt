@@ -1,12 +1,13 @@
 -- The workers of a run in their slots, before they run and after.
-use Rattle.std.specs.Prelude.{◌≡◌, ℕ, ◌<◌, ◌≤◌, List, [], ◌∷◌, length, take, slice_index_or}
+use Rattle.std.specs.Prelude.{◌≡◌, ℕ, ◌<◌, ◌≤◌, ◌⊎◌, List, [], ◌∷◌, length, take, slice_index_or}
 use Rattle.cnf_core.specs.Literals.{Assignment}
 use Rattle.board_core.specs.Subjects.{About}
 use Rattle.board_core.specs.Words.{times}
 use Rattle.candidate_words.specs.Seats.{Board, Sitter, Sits}
+use Rattle.core_chunks.specs.Chunks.{open_count}
 use Rattle.worker_loop.specs.declared.findings.Findings.{Findings}
 use Rattle.worker_loop.specs.Posts.{WorkerState, IsUnused, IsNewPost}
-use Rattle.worker_loop.specs.Runs.{IsFound}
+use Rattle.worker_loop.specs.Runs.{HasFewModels, IsFound}
 use Rattle.run_core.specs.declared.slot.Recruit.{Recruit}
 use Rattle.run_core.specs.declared.slot.Slot.{Slot}
 use Rattle.run_core.specs.declared.slot.Slot.TheVariants.{Ready, Called, Done, Left, Empty}
@@ -17,10 +18,10 @@ pub record IsReady (b : Board) (limit n : ℕ) (w : WorkerState) : Type 0 where
   pub about : w.post.about ≡ b.about
   pub sits : Sits b w.post.seat
   pub seat : w.post.seat.view.number ≡ n
-  pub few : length w.post.models.models ≤ 1
+  pub few : HasFewModels 2 w.post
   pub budget : w.post.budget ≡ limit
 
--- the seat of a worker that couldn't be made
+-- the seat of a worker that isn't made
 pub record IsLeft (b : Board) (n : ℕ) (s : Sitter) : Type 0 where
   pub sits : Sits b s
   pub number : s.view.number ≡ n
@@ -63,7 +64,7 @@ pub record IsRootAt (b : Board) (next : ℕ) (s : Sitter) : Type 0 where
 
 -- the worker at the root, which has the first model
 pub record IsAtRoot (a : About) (workers : ℕ) (w : WorkerState) : Type 0 where
-  pub models : w.post.models.models ≡ a.phases ∷ []
+  pub models : take 1 w.post.models.models ≡ a.phases ∷ []
   pub out : IsOut 1 workers w.post.seat.view.out
 
 -- the slot of this number has the seat of a worker that isn't made yet
@@ -81,6 +82,22 @@ IsStaffed b budget n (Called r) = IsCalled b budget n r
 IsStaffed b budget n (Done f) = ⊥
 IsStaffed b budget n (Left s) = ⊥
 IsStaffed b budget n Empty = ⊥
+
+-- or it has a seat that nobody is called to
+abbrev pub IsPlaced : {X : Type 0} {P : X → Type 0} → Board → ℕ → ℕ → Slot X P → Type 0
+IsPlaced b budget n (Ready w) = IsReady b budget n w
+IsPlaced b budget n (Called r) = IsCalled b budget n r
+IsPlaced b budget n (Done f) = ⊥
+IsPlaced b budget n (Left s) = IsLeft b n s
+IsPlaced b budget n Empty = ⊥
+
+-- the first worker has seen nothing open
+abbrev pub IsClosed : {X : Type 0} {P : X → Type 0} → Slot X P → Type 0
+IsClosed (Ready w) = open_count w.post.seat.view.seen w.post.about.formula.vars ≡ 0
+IsClosed (Called r) = ⊥
+IsClosed (Done f) = ⊥
+IsClosed (Left s) = ⊥
+IsClosed Empty = ⊥
 
 abbrev pub IsBack : {X : Type 0} {P : X → Type 0} → Board → ℕ → ℕ → Slot X P → Type 0
 IsBack b budget n (Ready w) = ⊥
@@ -106,7 +123,7 @@ IsFirstBack a workers Empty = ⊥
 
 -- a worker in the slot may run
 abbrev pub MayRun : {X : Type 0} {P : X → Type 0} → Board → Slot X P → Type 0
-MayRun b (Ready w) = Sits b w.post.seat × (length w.post.models.models ≤ 1)
+MayRun b (Ready w) = Sits b w.post.seat × HasFewModels 2 w.post
 MayRun b (Called r) = IsCalled b r.share.budget r.share.number r
 MayRun b (Done f) = Unit {0}
 MayRun b (Left s) = Unit {0}
@@ -152,10 +169,12 @@ pub record HaveRun {X : Type 0} {P : X → Type 0} (b : Board) (place : ℕ) (ol
   pub ran : (i : ℕ) (d : Slot X P) → i < place → Ran b (slice_index_or old i d) (slice_index_or new i d)
   pub rest : (i : ℕ) (d : Slot X P) → place ≤ i → slice_index_or new i d ≡ slice_index_or old i d
 
--- the crew of a run: so many slots, of which the first has the first worker
+-- the crew of a run: so many slots, of which the first has the first worker. To each of the others somebody is called,
+-- unless the first has closed all
 pub record IsCrew {X : Type 0} {P : X → Type 0} (b : Board) (workers budget : ℕ) (slots : List (Slot X P)) : Type 0 where
   pub count : length slots ≡ workers
-  pub staffed : (i : ℕ) (d : Slot X P) → i < workers → IsStaffed b budget i (slice_index_or slots i d)
+  pub placed : (i : ℕ) (d : Slot X P) → i < workers → IsPlaced b budget i (slice_index_or slots i d)
+  pub called : ((i : ℕ) (d : Slot X P) → i < workers → IsStaffed b budget i (slice_index_or slots i d)) ⊎ ((d : Slot X P) → IsClosed (slice_index_or slots 0 d))
   pub first : (d : Slot X P) → IsFirstReady b.about workers (slice_index_or slots 0 d)
 
 -- and what came back

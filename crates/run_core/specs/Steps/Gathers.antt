@@ -130,7 +130,7 @@ pub record AreGathered (b : Board) (workers budget below : ℕ) (seat : Sitter) 
   pub out : IsOut below workers seat.view.out
   pub store : models.formula ≡ b.about.formula
   pub first : take 1 models.models ≡ b.about.phases ∷ []
-  pub few : length models.models ≤ below * (b.about.formula.vars + 2)
+  pub few : length models.models ≤ below * (b.about.formula.vars + 3)
   pub drops_are : map (λ (w : Witness). w.var) drops ≡ seat.view.drops
   pub fixes_are : map (λ (l : Literal). l.var) fixes ≡ seat.view.fixes
   pub witnessed : All (IsWitness b.about models) drops
