@@ -34,11 +34,11 @@ pub(crate) const BLOCK: u32 = 256;
 const DOSE: u32 = 1024;
 
 /// A core query is easy that has at most so many conflicts.
-const EASY: u64 = 100;
+const EASY: u64 = 1000;
 
 /// So much work, propagations and variables of a turn, pays for a worker more: for each literal and variable of the formula,
 /// and at least.
-const AHEAD: u64 = 10;
+const AHEAD: u64 = 20;
 
 const LEAST_AHEAD: u64 = 200_000;
 
