@@ -2,7 +2,7 @@ ghost use Rattle.std.specs.Prelude.{◌≡◌, ◌≢◌, ◌+◌, ◌<◌, ◌�
 ghost use Rattle.local_search.specs.Tallies.{tally_at, with_tally, untouched, ListsBroken, breaks_of};
 ghost use Rattle.local_search.specs.Steps.Counted.{AddsBreak, IsAdded};
 
-use crate::spots::{rising, settle};
+use crate::spots::{rising, settle_again};
 use cnf_core::NoMemory;
 use std::alloc::Global;
 use std::marker::Model;
@@ -80,8 +80,15 @@ impl Counts {
         let old = self.tallies[place as usize];
         lose(&mut self.breaks, old);
         gain(&mut self.breaks, tally);
-        let broken = tally.count == 0;
-        self.broken = settle(&mut self.order, &mut self.spots, self.broken, place, broken);
+        let (was, broken) = (old.count == 0, tally.count == 0);
+        self.broken = settle_again(
+            &mut self.order,
+            &mut self.spots,
+            self.broken,
+            place,
+            was,
+            broken,
+        );
         self.tallies[place as usize] = tally;
     }
 

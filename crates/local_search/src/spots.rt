@@ -1,5 +1,5 @@
 ghost use Rattle.std.specs.Prelude.{◌≡◌, ◌<◌, ◌≤◌, ◌^◌, ℕ, All, IfOk, IfSome, length, slice_index};
-ghost use Rattle.local_search.specs.Steps.Spots.{IsArranged, IsSwapped, Settles, Enters, Leaves};
+ghost use Rattle.local_search.specs.Steps.Spots.{IsArranged, IsSwapped, IsSettled, Settles, Enters, Leaves};
 
 use cnf_core::NoMemory;
 use std::alloc::Global;
@@ -117,6 +117,31 @@ pub(crate) fn settle(
     } else {
         leave(order, spots, count, place)
     }
+}
+
+/// The same where it is known whether the place is among the first ones, and reads nothing where it stays so.
+#[inline(always)]
+pub(crate) fn settle_again(
+    order: &mut Vec<u32>,
+    spots: &mut Vec<u32>,
+    count: u32,
+    place: u32,
+    was: bool,
+    broken: bool,
+) -> u32
+    requires arranged { IsArranged (length order.old.items) order.old.items spots.old.items }
+    requires limit { length order.old.items ≤ 2 ^ 21 }
+    requires place { place < length order.old.items }
+    requires count { count ≤ length order.old.items }
+    requires was { IsSettled place was count spots.old.items }
+    ensures arranged { IsArranged (length order.old.items) order.new.items spots.new.items }
+    ensures count { result ≤ length order.old.items }
+    ensures settled { Settles (length order.old.items) place broken count spots.old.items result spots.new.items }
+{
+    if was == broken {
+        return count;
+    }
+    settle(order, spots, count, place, broken)
 }
 
 /// Has the place among the first ones, and answers how many these are then.

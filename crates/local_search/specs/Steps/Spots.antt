@@ -27,6 +27,11 @@ pub record Leaves (n place count : ℕ) (spots : List ℕ) (count' : ℕ) (spots
   pub first : (q : ℕ) → q < n → q ≢ place → slice_index spots q < count → slice_index spots' q < count'
   pub later : (q : ℕ) → q < n → q ≢ place → count ≤ slice_index spots q → count' ≤ slice_index spots' q
 
+-- the place is among the first ones just where it was broken
+pub record IsSettled (place : ℕ) (was : Bool) (count : ℕ) (spots : List ℕ) : Type 0 where
+  pub first : IsTrue was → slice_index spots place < count
+  pub later : was ≡ false → count ≤ slice_index spots place
+
 -- the place is among the first ones just where it is broken
 pub record Settles (n place : ℕ) (broken : Bool) (count : ℕ) (spots : List ℕ) (count' : ℕ) (spots' : List ℕ) : Type 0 where
   pub own_first : IsTrue broken → slice_index spots' place < count'
