@@ -142,9 +142,8 @@ impl Scores {
         let saved = self.saved[at];
         let fewer = self.lost(tables, counts, held, lost);
         let more = self.won(tables, counts, held, lost.negated());
-        self.saved[at] = 0;
         self.flipped[at] = time;
-        self.add(lost.var(), saved.saturating_neg(), held);
+        self.score(lost.var(), saved.saturating_neg(), held);
         if self.soft[at] > 0 {
             let unwon = lost.positive() == self.wished[at];
             self.unwon.put(lost.var() - 1, unwon);
@@ -268,15 +267,31 @@ impl Scores {
     }
 
     /// Adds to the score of a variable.
+    #[inline(always)]
     fn add(&mut self, var: u32, by: i64, held: &Values)
         requires var { (0 < var) × (var ≤ self.old.vars) }
         requires held { length held.now ≡ self.old.vars }
         ensures { self.new ≡ self.old }
     {
+        let saved = self.saved[var as usize - 1].saturating_add(by);
+        self.score(var, saved, held);
+    }
+
+    /// Gives a variable its score. A flip that may be made is good just where it saves weight, so that nothing else is
+    /// read where that stays.
+    #[inline(always)]
+    fn score(&mut self, var: u32, saved: i64, held: &Values)
+        requires var { (0 < var) × (var ≤ self.old.vars) }
+        requires held { length held.now ≡ self.old.vars }
+        ensures { self.new ≡ self.old }
+    {
         let at = var as usize - 1;
-        let saved = self.saved[at].saturating_add(by);
+        let was = self.saved[at] > 0;
         self.saved[at] = saved;
-        self.good.put(var - 1, saved > 0 && !held.get(var));
+        if was == (saved > 0) {
+            return;
+        }
+        self.good.put(var - 1, !was && !held.get(var));
     }
 
     /// Adds to the score of the variable that is the sum of a clause's true ones.
