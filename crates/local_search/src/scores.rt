@@ -152,6 +152,7 @@ impl Scores {
     }
 
     /// The weight of the clause at a place.
+    #[inline(always)]
     fn weight(&self, place: u32) -> i64
         requires { place < self.now.clauses }
     {
@@ -168,13 +169,16 @@ impl Scores {
     {
         let mut changes = 0u64;
         for place in tables.places(lit) {
-            let weight = self.weight(*place);
             let tally = counts.tally(*place);
+            if tally.count > 1 {
+                continue;
+            }
+            let weight = self.weight(*place);
             if tally.count == 0 {
                 let lits = tables.clause(*place);
                 changes = changes.saturating_add(lits.len() as u64);
                 self.add_all(lits, weight, held);
-            } else if tally.count == 1 {
+            } else {
                 self.add_sum(tally.sum, weight.saturating_neg(), held);
             }
         }
@@ -191,8 +195,11 @@ impl Scores {
     {
         let mut changes = 0u64;
         for place in tables.places(lit) {
-            let weight = self.weight(*place);
             let tally = counts.tally(*place);
+            if tally.count > 2 {
+                continue;
+            }
+            let weight = self.weight(*place);
             if tally.count == 1 {
                 let lits = tables.clause(*place);
                 changes = changes.saturating_add(lits.len() as u64);
