@@ -219,6 +219,7 @@ impl LocalSearch {
     }
 
     /// How likely the variable of a literal is flipped; 0 where it may not be.
+    #[inline(always)]
     fn weight(&self, lit: Lit) -> u64
         requires vars { self.now.counts.vars ≡ length self.now.held }
         requires within { IsWithin (length self.now.held) lit }

@@ -302,6 +302,7 @@ impl Scores {
     }
 
     /// Adds to the score of the variable that is the sum of a clause's true ones.
+    #[inline(always)]
     fn add_sum(&mut self, sum: u64, by: i64, held: &Values)
         requires held { length held.now ≡ self.old.vars }
         ensures { self.new ≡ self.old }
@@ -367,6 +368,7 @@ impl Scores {
 
     /// The variable, where it may be flipped and is better than the best so far, and otherwise that one: more weight is
     /// better, and of as much weight the flip that was longer ago.
+    #[inline(always)]
     fn better(&self, best: Option<u32>, var: u32, held: &Values) -> Option<u32>
         requires best { IfSome best (IsFree self.now.vars held.now) }
         requires var { (0 < var) × (var ≤ self.now.vars) }
@@ -383,6 +385,7 @@ impl Scores {
     }
 
     /// Whether a variable is better than another one.
+    #[inline(always)]
     fn beats(&self, var: u32, other: u32) -> bool
         requires var { (0 < var) × (var ≤ self.now.vars) }
         requires other { (0 < other) × (other ≤ self.now.vars) }
