@@ -16,6 +16,7 @@ use Rattle.assumption_solver.specs.declared.found.Progress.TheVariants.{Found as
 use Rattle.worker_loop.specs.declared.post.Post.{Post}
 use Rattle.worker_loop.specs.Posts.{IsLonger}
 use Rattle.worker_loop.specs.Steps.Held.{IsPost}
+use Rattle.worker_loop.specs.Steps.Asked.{IsPart}
 use Rattle.worker_loop.specs.Steps.Moves.{IsOnward, IsAskedTimes, IsLooking, IsUnmoved, queries_of}
 use Rattle.worker_loop.proofs.Grown.{longer_continued, longer_queried, clocked_continued, clocked_queried}
 use Rattle.worker_loop.proofs.Imports.{post_moved}
@@ -157,6 +158,45 @@ within_onward p q ls onward within = subst (λ (a : About). AreWithin a.formula.
 -- the seat stays where it is
 pub sits_sliced : (b : Board) (q r : Post) → Sits b q.seat → r.seat ≡ q.seat → Sits b r.seat
 sits_sliced b q r sits same = subst (λ (s : Sitter). Sits b s) (sym same) sits
+
+-- parts of a query one after another
+pub part_refl : (p : Post) → IsPart p p
+part_refl p = record { seat = refl; onward = onward_refl p; models = refl; log = continued_refl p.solver.log }
+
+pub part_next : (p q r : Post) → IsPart p q → r.seat ≡ q.seat → IsOnward q r → r.models ≡ q.models → IsContinued q.solver.log r.solver.log → IsPart p r
+part_next p q r before seat onward models log = record {
+  seat = seat ∙ before.seat;
+  onward = onward_trans p q r before.onward onward;
+  models = models ∙ before.models;
+  log = continued_trans p.solver.log q.solver.log r.solver.log before.log log;
+}
+
+part_unmoved : (p q r : Post) → IsPart p q → IsUnmoved q r → IsPart p r
+part_unmoved p q r before same = record {
+  seat = same.seat ∙ before.seat;
+  onward = onward_trans p q r before.onward (unmoved_onward q r same);
+  models = same.models ∙ before.models;
+  log = continued_same p.solver.log q.solver.log r.solver.log before.log (ap (λ (s : SolverState). s.log) same.solver);
+}
+
+-- and before the next one, where so many conflicts are left
+pub record IsGoingFor (p q : Post) (conflicts left slice : ℕ) : Type 0 where
+  pub post : IsPost q
+  pub part : IsPart p q
+  pub most : learnt_count q.solver.log.entries + left ≤ learnt_count p.solver.log.entries + conflicts
+  pub some : 1 ≤ slice
+  pub short : slice ≤ 1000
+
+pub going_helped : (p q r : Post) (conflicts left slice : ℕ) → IsPart p q → IsPost r → IsUnmoved q r
+    → learnt_count q.solver.log.entries + left ≤ learnt_count p.solver.log.entries + conflicts → 1 ≤ slice → slice ≤ 1000
+    → IsGoingFor p r conflicts left slice
+going_helped p q r conflicts left slice before post same most some short = record {
+  post = post;
+  part = part_unmoved p q r before same;
+  most = omega (arith, most, ap (λ (s : SolverState). learnt_count s.log.entries) same.solver);
+  some = some;
+  short = short;
+}
 
 -- help moves nothing
 pub asking_unmoved : (b : Board) (p q r : Post) → IsAsking b p q → IsPost r → IsUnmoved q r → IsAsking b p r

@@ -7,6 +7,7 @@ ghost use Rattle.assumption_solver.specs.Logs.{IsContinued};
 ghost use Rattle.assumption_solver.specs.Answers.{FoundSays, ProgressSays};
 ghost use Rattle.worker_loop.specs.Steps.Held.{IsPost};
 ghost use Rattle.worker_loop.specs.Steps.Moves.{IsLoaded, IsOnward, IsUnmoved, IsAskedTimes, IsClosed, queries_of};
+ghost use Rattle.worker_loop.specs.Steps.Asked.{IsPart};
 ghost use Rattle.worker_loop.specs.Steps.Asked.{AskedSays};
 
 use crate::masks::{group_of, has_bit, open_bits};
@@ -80,11 +81,38 @@ impl<'f, 'r> Post<'f, 'r> {
         ensures says { IfSome result (λ found. FoundSays found assume.now [] self.new.budget self.new.solver.log) }
     {
         self.solver.begin(chooser);
-        let progress = self.slice(assume, &[], chooser, conflicts);
+        let found = self.go_on_for(assume, chooser, conflicts);
         self.harvest(words);
-        match progress {
-            Progress::Found(found) => Some(found),
-            Progress::Paused => None,
+        found
+    }
+
+    /// Goes on with a query under assumptions for at most so many conflicts.
+    fn go_on_for(
+        &mut self,
+        assume: &[Lit],
+        chooser: &mut Box<dyn Chooser>,
+        conflicts: u64,
+    ) -> Option<Found>
+        requires post { IsPost self.old }
+        requires assume { AreWithin self.old.question.now.formula.vars assume.now }
+        ensures post { IsPost self.new }
+        ensures part { IsPart self.old self.new }
+        ensures most { learnt_count self.new.solver.log.entries ≤ learnt_count self.old.solver.log.entries + conflicts }
+        ensures says { IfSome result (λ found. FoundSays found assume.now [] self.new.budget self.new.solver.log) }
+    {
+        let mut left = conflicts;
+        let mut slice = FIRST_SLICE;
+        loop {
+            let now = slice.min(left);
+            if let Progress::Found(found) = self.slice(assume, &[], chooser, now) {
+                return Some(found);
+            }
+            left -= now;
+            if left == 0 {
+                return None;
+            }
+            self.help(assume, &[]);
+            slice = (2 * slice).min(MOST_SLICE);
         }
     }
 

@@ -97,7 +97,7 @@ impl<'f, 'r> Post<'f, 'r> {
         self.begin_behind(&block);
         self.hear(words)?;
         let conflicts = self.easy_conflicts()?;
-        self.try_block(words, &block, chooser, conflicts)
+        self.work_easily(words, block, chooser, conflicts)
     }
 
     /// How many conflicts a core query may have before it is given up: none where too few candidates are closed to pay for
@@ -184,6 +184,38 @@ impl<'f, 'r> Post<'f, 'r> {
             None => {
                 let chosen = self.choose_block(block, chooser)?;
                 self.work_on(words, &chosen, chooser)
+            }
+        }
+    }
+
+    /// As `work`, but that it gives the query up after so many conflicts.
+    fn work_easily(
+        &mut self,
+        words: &Words,
+        block: Vec<u32>,
+        chooser: &mut Box<dyn Chooser>,
+        conflicts: u64,
+    ) -> Result<Option<TurnEnd>, NoMemory>
+        requires post { IsPost self.old }
+        requires sits { Sits words.now self.old.seat }
+        requires copied { IsLoaded self.old }
+        requires block { IsBlockOf self.old.loaded.items self.old.question.now.formula.vars 256 block.items }
+        requires some { 0 < length block.items }
+        requires room { length self.old.models.models < 2 ^ 26 }
+        ensures post { IsPost self.new }
+        ensures sits { Sits words.now self.new.seat }
+        ensures onward { IsOnward self.old self.new }
+        ensures asked { IsAskedTimes 2 self.old.solver.log self.new.solver.log }
+        ensures stored { HasStored self.old.models self.new.models }
+        ensures follows { IfOk result (λ tried. IfSome tried (λ end. Follows end self.new)) }
+        ensures vain { IfOk result (λ tried. IfNone tried (IsInVain conflicts self.old self.new)) }
+        ensures settled { OnOk result (KeepsSettled self.old self.new) }
+    {
+        match self.try_block(words, &block, chooser, 0)? {
+            Some(end) => Ok(Some(end)),
+            None => {
+                let chosen = self.choose_block(block, chooser)?;
+                self.try_block(words, &chosen, chooser, conflicts)
             }
         }
     }

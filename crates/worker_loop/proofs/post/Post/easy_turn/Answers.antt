@@ -15,26 +15,26 @@ begin_behind-requires-clause-block g c =
 pub returns-clause-later : goal.returns-clause-later
 returns-clause-later g c =
     let some : 0 < length c.in_ok-block.block.items = search rules in
-    let turned = has_turned c.args.self.now c.load_all.new.self c.begin_behind.new.self c.hear.new.self c.try_block.new.self c.in_ok-block.block.items
+    let turned = has_turned c.args.self.now c.load_all.new.self c.begin_behind.new.self c.hear.new.self c.work_easily.new.self c.in_ok-block.block.items
     c.load_all.ensures.loaded c.load_all.ensures.copied c.load_all.ensures.post c.begin_behind.ensures.same c.begin_behind.ensures.post
     c.hear.ensures.hearing c.in_ok-hear.ensures.heard c.in_ok-hear.ensures.taken c.hear.ensures.asked c.hear.ensures.models c.hear.ensures.post
-    c.try_block.ensures.onward c.try_block.ensures.asked c.try_block.ensures.post c.in_ok-block.ensures some in
-    turn_later c.args.self.now c.load_all.new.self c.begin_behind.new.self c.hear.new.self c.try_block.new.self turned
+    c.work_easily.ensures.onward c.work_easily.ensures.asked c.work_easily.ensures.post c.in_ok-block.ensures some in
+    turn_later c.args.self.now c.load_all.new.self c.begin_behind.new.self c.hear.new.self c.work_easily.new.self turned
 
 pub returns-clause-says : goal.returns-clause-says
 returns-clause-says g c =
     let some : 0 < length c.in_ok-block.block.items = search rules in
-    let turned = has_turned c.args.self.now c.load_all.new.self c.begin_behind.new.self c.hear.new.self c.try_block.new.self c.in_ok-block.block.items
+    let turned = has_turned c.args.self.now c.load_all.new.self c.begin_behind.new.self c.hear.new.self c.work_easily.new.self c.in_ok-block.block.items
     c.load_all.ensures.loaded c.load_all.ensures.copied c.load_all.ensures.post c.begin_behind.ensures.same c.begin_behind.ensures.post
     c.hear.ensures.hearing c.in_ok-hear.ensures.heard c.in_ok-hear.ensures.taken c.hear.ensures.asked c.hear.ensures.models c.hear.ensures.post
-    c.try_block.ensures.onward c.try_block.ensures.asked c.try_block.ensures.post c.in_ok-block.ensures some in
-    tried_says c.args.self.now c.load_all.new.self c.begin_behind.new.self c.hear.new.self c.try_block.new.self c.try_block.result turned c.try_block.ensures.follows
+    c.work_easily.ensures.onward c.work_easily.ensures.asked c.work_easily.ensures.post c.in_ok-block.ensures some in
+    tried_says c.args.self.now c.load_all.new.self c.begin_behind.new.self c.hear.new.self c.work_easily.new.self c.work_easily.result turned c.work_easily.ensures.follows
 
 pub returns-clause-between : goal.returns-clause-between
 returns-clause-between g c =
     let some : 0 < length c.in_ok-block.block.items = search rules in
-    let turned = has_turned c.args.self.now c.load_all.new.self c.begin_behind.new.self c.hear.new.self c.try_block.new.self c.in_ok-block.block.items
+    let turned = has_turned c.args.self.now c.load_all.new.self c.begin_behind.new.self c.hear.new.self c.work_easily.new.self c.in_ok-block.block.items
     c.load_all.ensures.loaded c.load_all.ensures.copied c.load_all.ensures.post c.begin_behind.ensures.same c.begin_behind.ensures.post
     c.hear.ensures.hearing c.in_ok-hear.ensures.heard c.in_ok-hear.ensures.taken c.hear.ensures.asked c.hear.ensures.models c.hear.ensures.post
-    c.try_block.ensures.onward c.try_block.ensures.asked c.try_block.ensures.post c.in_ok-block.ensures some in
-    tried_between c.in_ok-conflicts.conflicts c.args.self.now c.load_all.new.self c.begin_behind.new.self c.hear.new.self c.try_block.new.self c.try_block.result turned c.in_ok-conflicts.ensures c.try_block.ensures.follows c.try_block.ensures.vain c.try_block.ensures.settled
+    c.work_easily.ensures.onward c.work_easily.ensures.asked c.work_easily.ensures.post c.in_ok-block.ensures some in
+    tried_between c.in_ok-conflicts.conflicts c.args.self.now c.load_all.new.self c.begin_behind.new.self c.hear.new.self c.work_easily.new.self c.work_easily.result turned c.in_ok-conflicts.ensures c.work_easily.ensures.follows c.work_easily.ensures.vain c.work_easily.ensures.settled
