@@ -5,6 +5,7 @@ ghost use Rattle.local_search.specs.Searches.{IsSearchOf, IsFrozenModel, values_
 ghost use Rattle.local_search.specs.Tallies.{tally_at};
 ghost use Rattle.local_search.specs.Steps.States.{IsState, IsOnward, IsSameButDraws, IsFree, IsHeld};
 
+use crate::draws::below;
 use crate::{LocalSearch, Tables};
 use cnf_core::{Lit, Values};
 use rand_core::utils::NextWord;
@@ -143,12 +144,12 @@ impl LocalSearch {
         ensures same { IsSameButDraws self.old self.new }
         ensures broken { IfSome result (λ p. (p < length self.old.counts.tallies) × ((tally_at self.old.counts.tallies p).count ≡ 0)) }
     {
-        let word = self.rng.next_word() as usize;
+        let word = self.rng.next_word();
         let broken = self.counts.broken();
         if broken.is_empty() {
             return None;
         }
-        Some(broken[word % broken.len()])
+        Some(broken[below(word, broken.len())])
     }
 
     /// Picks the variable of a clause that is flipped, if one may be.

@@ -11,6 +11,7 @@ mod counts;
 mod descend;
 #[cfg(test)]
 mod descend_tests;
+mod draws;
 mod flat;
 mod freeze;
 mod listing;

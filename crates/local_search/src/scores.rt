@@ -6,6 +6,7 @@ ghost use Rattle.local_search.specs.Steps.Scored.{sizes};
 
 use crate::Tables;
 use crate::counts::Counts;
+use crate::draws::below;
 use crate::spots::NumberSet;
 use cnf_core::{Lit, NoMemory, Values};
 use rand_core::utils::NextWord;
@@ -332,7 +333,7 @@ impl Scores {
         let mut best = None;
         for place in 0..members.len().min(LOOKED_AT) {
             let at = if members.len() > LOOKED_AT {
-                rng.next_word() as usize % members.len()
+                below(rng.next_word(), members.len())
             } else {
                 place
             };
@@ -363,7 +364,7 @@ impl Scores {
         if members.is_empty() {
             return None;
         }
-        self.better(None, members[word as usize % members.len()] + 1, held)
+        self.better(None, members[below(word, members.len())] + 1, held)
     }
 
     /// The variable, where it may be flipped and is better than the best so far, and otherwise that one: more weight is
