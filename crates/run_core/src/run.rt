@@ -44,7 +44,9 @@ pub fn run_one<'f>(
 }
 
 /// Finds what a formula's models have in common with so many workers, each on a thread of its own where one can be made.
-/// Each passes the gate before its turns. Worker w asks the chooser at place w; all are dropped by the end.
+/// Over more than 256 variables the first goes ahead of the others in the calling thread, as long as its turns are easy, and
+/// where it closes all nobody else is called. Then each passes the gate before each of its turns. Worker w asks the chooser
+/// at place w; all are dropped by the end.
 pub fn run_many<'f, R: Threads + Sync, G: Gate>(
     rt: &R,
     alloc: Global,

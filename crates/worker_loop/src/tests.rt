@@ -5,6 +5,7 @@ ghost use Rattle.board_core.specs.Boards.{root_view};
 ghost use Rattle.board_core.specs.Rules.{IsView};
 ghost use Rattle.candidate_words.specs.Seats.{Sits};
 ghost use Rattle.worker_loop.specs.Posts.{IsUnused, IsNewPost};
+ghost use Rattle.worker_loop.specs.Runs.{HasFewModels};
 
 use crate::{End, Findings, NoGate, Question, Share, Worker};
 use candidate_words::{Seat, Words};
@@ -70,6 +71,7 @@ fn open<'f>(
 }
 
 /// One of two workers, with a chooser that takes the least variable without a value.
+#[tactic(auto, using(crate::proofs::Blocks::open_most))]
 fn hire<'f, 'r>(
     alloc: Global,
     number: u32,
@@ -81,7 +83,8 @@ fn hire<'f, 'r>(
     requires budget { (1 ≤ budget) × (budget ≤ 1000) }
     requires seat { IsView question.now seat.view }
     requires unused { IsUnused question.now seat }
-    ensures { IfOk result (λ w. IsNewPost question.now seat budget w.post) }
+    ensures new { IfOk result (λ w. IsNewPost question.now seat budget w.post) }
+    ensures few { IfOk result (λ w. HasFewModels 1 w.post) }
 {
     let chooser: Box<dyn Chooser> = Box::new(alloc, OrderChooser::new())?;
     let share = Share {

@@ -123,7 +123,8 @@ impl<'f, 'r> Worker<'f, 'r> {
 
     /// Takes a turn over the table. It begins by loading every group, each once. Where nothing is open then, it is done.
     /// Otherwise it asks a core query over 256 of the candidates that were open, or over all of them where there are
-    /// fewer, and where the core has more than one literal a chunk query over it. It stores at most one model.
+    /// fewer, and where the core has more than one literal a chunk query over it. Where the solver needs a conflict for the
+    /// core query, it may look at other candidates first. It stores at most one model.
     pub fn turn(&mut self, words: &Words) -> TurnEnd
         requires sits { Sits words.now self.old.post.seat }
         requires room { length self.old.post.models.models < 2 ^ 21 }

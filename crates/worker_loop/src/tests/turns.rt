@@ -4,7 +4,7 @@ ghost use Rattle.board_core.specs.Boards.{root_view};
 ghost use Rattle.candidate_words.specs.Seats.{Sits};
 ghost use Rattle.worker_loop.specs.Posts.{IsUnused};
 
-use crate::tests::{ENOUGH, fits, hire, open};
+use crate::tests::{ENOUGH, fits, fixes, hire, open};
 use crate::{End, Findings, NoGate, Question, TurnEnd, Worker};
 use candidate_words::{Seat, Words};
 use cnf_core::Formula;
@@ -163,5 +163,33 @@ fn workers_and_findings_may_go_to_other_threads(rt: HostRuntime) -> Result<(), F
     let findings = worker.run(&words, &NoGate);
     may_be_sent(&findings);
     assert_eq!(rt; findings.end, End::Done);
+    Ok(())
+}
+
+#[test]
+fn a_worker_alone_goes_ahead_over_more_than_a_block_until_nothing_is_open(
+    rt: HostRuntime,
+) -> Result<(), Fail> {
+    let alloc = rt.alloc();
+    let formula = Formula::of_numbers(alloc, 300, &[300, 0, -299, 0])?;
+    let (words, seat, question) = open(alloc, &formula, 1 << 11)?;
+    let mut worker = hire(alloc, 0, &question, seat, ENOUGH)?;
+    assert!(rt; worker.run_ahead(&words));
+    let findings = worker.run(&words, &NoGate);
+    let mut fixed = fixes(alloc, &findings)?;
+    fixed.sort_unstable();
+    assert_eq!(rt; fixed.as_slice(), [-299, 300].as_slice());
+    assert_eq!(rt; findings.drops.len(), 298);
+    Ok(())
+}
+
+#[test]
+fn over_one_block_no_worker_goes_ahead(rt: HostRuntime) -> Result<(), Fail> {
+    let alloc = rt.alloc();
+    let formula = Formula::of_numbers(alloc, 2, &LEAD)?;
+    let (words, seat, question) = open(alloc, &formula, 3)?;
+    let mut worker = hire(alloc, 0, &question, seat, ENOUGH)?;
+    assert!(rt; !worker.run_ahead(&words));
+    assert_eq!(rt; worker.run(&words, &NoGate).fixes.len(), 1);
     Ok(())
 }
