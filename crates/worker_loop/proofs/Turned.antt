@@ -1,5 +1,5 @@
 -- A turn whose words showed something open, from its start to its end.
-use Rattle.std.proofs.Common.{◌≡◌, ℕ, zero, suc, inl, ◌+◌, ◌*◌, ◌<◌, ◌≤◌, Result, Ok, Err, List, length, sym, ap, ◌∙◌, subst, arith}
+use Rattle.std.proofs.Common.{inr, ◌≡◌, ℕ, zero, suc, inl, ◌+◌, ◌*◌, ◌<◌, ◌≤◌, Result, Ok, Err, List, length, sym, ap, ◌∙◌, subst, arith, ⊎_elim, ◌⊎◌}
 use Rattle.std.specs.Prelude.{Option, Some, None, IfOk, OnOk, IfSome, IfNone}
 use Rattle.cnf_core.specs.declared.memory.NoMemory.{NoMemory}
 use Rattle.lrat_log.specs.Entries.{Recorded, learnt_count}
@@ -17,7 +17,7 @@ use Rattle.worker_loop.specs.Posts.{IsLater}
 use Rattle.worker_loop.specs.Evidence.{IsSettled, IsPaced}
 use Rattle.worker_loop.specs.Turns.{closed_count, Goes, IsWorked}
 use Rattle.worker_loop.specs.Steps.Held.{IsPost, IsBetweenTurns, state_of}
-use Rattle.worker_loop.specs.Steps.Moves.{IsLoaded, IsOnward, IsHearing, HasLoadedAll, HasHeard, HasTaken, IsAskedTimes, IsUnmoved, KeepsSettled, IsInVain, IsAffordable}
+use Rattle.worker_loop.specs.Steps.Moves.{IsLoaded, IsOnward, IsHearing, HasLoadedAll, HasHeard, HasTaken, IsAskedTimes, IsUnmoved, KeepsSettled, IsInVain, IsAffordable, IsGivenUp}
 use Rattle.worker_loop.specs.Steps.Following.{Follows, PostSays}
 use Rattle.worker_loop.proofs.Counts.{open_later, open_and_closed}
 use Rattle.worker_loop.proofs.Queries.{asked_after, asked_same}
@@ -125,34 +125,44 @@ end_between p q r s t end is follows keeps between = record {
 }
 
 -- a query that was given up is paid for, or learnt nothing
-vain_paced : (conflicts : ℕ) (p q r s t : Post) → HasTurned p q r s t → IsAffordable conflicts s → IsInVain conflicts s t
-    → IsPaced (state_of p) → IsPaced (state_of t)
-vain_paced zero p q r s t is paid vain paced =
-    let later = turn_later p q r s t is in
-    paced_by (state_of p) (state_of t) 0 later.about later.budget
-    (subst (λ (u : SolverState). IsAskedTimes 0 u.log t.solver.log) (is.same.solver ∙ is.loads.solver)
-    (asked_after 0 0 r.solver.log s.solver.log t.solver.log (learnt_longer r.solver.log s.solver.log is.hearing.log)
-    (learnt_longer s.solver.log t.solver.log is.working.log) is.asked_s vain.asked))
-    (learnt_longer p.solver.log t.solver.log later.log) is.post_t.few
-    (omega (arith, count_later p.question.now.formula.vars p.question.now.formula.vars p.seat.view.seen t.seat.view.seen (omega arith) later.seen)) paced
-vain_paced (suc conflicts) p q r s t is paid vain paced =
-    let n : ℕ = s.question.now.formula.vars in
-    let vars : t.question.now.formula.vars ≡ n = ap (λ (a : About). a.formula.vars) is.working.question in
-    let words : s.loaded.items ≡ t.seat.view.loaded = is.hearing.copy ∙ is.same.copy ∙ is.copied
-    ∙ sym (is.working.loaded ∙ is.hearing.loaded ∙ ap (λ (u : Sitter). u.view.loaded) is.same.seat) in
-    let later : AreEarlier (groups n) t.seat.view.loaded t.seat.view.seen =
-    subst (λ (m : ℕ). AreEarlier (groups m) t.seat.view.loaded t.seat.view.seen) vars is.post_t.view.loaded_seen in
-    let less : open_count t.seat.view.seen n ≤ open_count s.loaded.items n =
-    subst (λ (ws : List ℕ). open_count t.seat.view.seen n ≤ open_count ws n) (sym words)
-    (count_later n n t.seat.view.loaded t.seat.view.seen (omega arith) later) in
-    inl (subst (λ (m : ℕ). learning_queries t.solver.log.entries + 2 * open_count t.seat.view.seen m ≤ 2 * m + 1) (sym vars)
-    (omega (arith, vain.asked.most, paid, less)))
+vain_paced : (p q r s t : Post) → HasTurned p q r s t → IsGivenUp s t → IsPaced (state_of p) → IsPaced (state_of t)
+vain_paced p q r s t is given paced =
+    ⊎_elim (λ (none : IsAskedTimes 0 s.solver.log t.solver.log). unlearnt p q r s t is none paced)
+    (λ (paid : learning_queries t.solver.log.entries + 2 * open_count s.loaded.items s.question.now.formula.vars ≤ 2 * s.question.now.formula.vars + 1).
+    inl (all_paid p q r s t is paid))
+    given.paid
+  where
+    unlearnt : (p q r s t : Post) → HasTurned p q r s t → IsAskedTimes 0 s.solver.log t.solver.log → IsPaced (state_of p) → IsPaced (state_of t)
+    unlearnt p q r s t is none paced =
+        let later = turn_later p q r s t is in
+        let n : ℕ = p.question.now.formula.vars in
+        paced_by (state_of p) (state_of t) 0 later.about later.budget
+        (subst (λ (u : SolverState). IsAskedTimes 0 u.log t.solver.log) (is.same.solver ∙ is.loads.solver)
+        (asked_after 0 0 r.solver.log s.solver.log t.solver.log (learnt_longer r.solver.log s.solver.log is.hearing.log)
+        (learnt_longer s.solver.log t.solver.log is.working.log) is.asked_s none))
+        (learnt_longer p.solver.log t.solver.log later.log) is.post_t.few
+        (omega (arith, count_later n n p.seat.view.seen t.seat.view.seen (omega arith) later.seen)) paced
 
-vain_between : (conflicts : ℕ) (p q r s t : Post) → HasTurned p q r s t → IsAffordable conflicts s → IsInVain conflicts s t
-    → KeepsSettled s t → IsBetweenTurns (state_of p) → IsBetweenTurns (state_of t)
-vain_between conflicts p q r s t is paid vain keeps between = record {
+    all_paid : (p q r s t : Post) → HasTurned p q r s t
+        → learning_queries t.solver.log.entries + 2 * open_count s.loaded.items s.question.now.formula.vars ≤ 2 * s.question.now.formula.vars + 1
+        → learning_queries t.solver.log.entries + 2 * open_count t.seat.view.seen t.question.now.formula.vars ≤ 2 * t.question.now.formula.vars + 1
+    all_paid p q r s t is paid =
+        let n : ℕ = s.question.now.formula.vars in
+        let vars : t.question.now.formula.vars ≡ n = ap (λ (a : About). a.formula.vars) is.working.question in
+        let words : s.loaded.items ≡ t.seat.view.loaded = is.hearing.copy ∙ is.same.copy ∙ is.copied
+        ∙ sym (is.working.loaded ∙ is.hearing.loaded ∙ ap (λ (u : Sitter). u.view.loaded) is.same.seat) in
+        let later : AreEarlier (groups n) t.seat.view.loaded t.seat.view.seen =
+        subst (λ (m : ℕ). AreEarlier (groups m) t.seat.view.loaded t.seat.view.seen) vars is.post_t.view.loaded_seen in
+        let less : open_count t.seat.view.seen n ≤ open_count s.loaded.items n =
+        subst (λ (ws : List ℕ). open_count t.seat.view.seen n ≤ open_count ws n) (sym words)
+        (count_later n n t.seat.view.loaded t.seat.view.seen (omega arith) later) in
+        subst (λ (m : ℕ). learning_queries t.solver.log.entries + 2 * open_count t.seat.view.seen m ≤ 2 * m + 1) (sym vars) (omega (arith, paid, less))
+
+vain_between : (p q r s t : Post) → HasTurned p q r s t → IsGivenUp s t → KeepsSettled s t → IsBetweenTurns (state_of p)
+    → IsBetweenTurns (state_of t)
+vain_between p q r s t is given keeps between = record {
   settled = settled_end p q r s t is keeps between.settled;
-  paced = vain_paced conflicts p q r s t is paid vain between.paced;
+  paced = vain_paced p q r s t is given between.paced;
 }
 
 pub tried_says : (p q r s t : Post) (res : Result (Option TurnEnd) NoMemory) → HasTurned p q r s t
@@ -162,12 +172,12 @@ tried_says p q r s t (Ok (Some end)) is follows = says_by p q r s t end is follo
 tried_says p q r s t (Ok None) is follows = follows
 tried_says p q r s t (Err e) is follows = follows
 
-pub tried_between : (conflicts : ℕ) (p q r s t : Post) (res : Result (Option TurnEnd) NoMemory) → HasTurned p q r s t → IsAffordable conflicts s
-    → IfOk res (λ tried. IfSome tried (λ end. Follows end t)) → IfOk res (λ tried. IfNone tried (IsInVain conflicts s t))
+pub tried_between : (p q r s t : Post) (res : Result (Option TurnEnd) NoMemory) → HasTurned p q r s t
+    → IfOk res (λ tried. IfSome tried (λ end. Follows end t)) → IfOk res (λ tried. IfNone tried (IsGivenUp s t))
     → OnOk res (KeepsSettled s t) → OnOk res (IsBetweenTurns (state_of p) → IsBetweenTurns (state_of t))
-tried_between conflicts p q r s t (Ok (Some end)) is paid follows vain keeps = end_between p q r s t end is follows keeps
-tried_between conflicts p q r s t (Ok None) is paid follows vain keeps = vain_between conflicts p q r s t is paid vain keeps
-tried_between conflicts p q r s t (Err e) is paid follows vain keeps = keeps
+tried_between p q r s t (Ok (Some end)) is follows given keeps = end_between p q r s t end is follows keeps
+tried_between p q r s t (Ok None) is follows given keeps = vain_between p q r s t is given keeps
+tried_between p q r s t (Err e) is follows given keeps = keeps
 
 pub turn_between : (p q r s t : Post) (res : Result TurnEnd NoMemory) → HasTurned p q r s t → IfOk res (λ end. Follows end t)
     → OnOk res (KeepsSettled s t) → OnOk res (IsBetweenTurns (state_of p) → IsBetweenTurns (state_of t))
@@ -209,3 +219,33 @@ has_turned p q r s t block loads copied post_q same post_r hearing heard taken a
   post_t = post_t;
   some = omega (arith, some, is.count);
 }
+
+-- what the first look and the choice of another block leave of a query that was given up
+pub given_up : (conflicts : ℕ) (p q r s : Post) (res : Result (Option TurnEnd) NoMemory) → IsInVain 0 p q → IsOnward p q → IsOnward q r → IsOnward r s
+    → IsAskedTimes 0 q.solver.log r.solver.log → r.models ≡ q.models → IsAffordable conflicts q
+    → IfOk res (λ tried. IfNone tried (IsInVain conflicts r s)) → IfOk res (λ tried. IfNone tried (IsGivenUp p s))
+given_up conflicts p q r s (Ok (Some end)) first one two three looked models paid vain = vain
+given_up conflicts p q r s (Ok None) first one two three looked models paid vain = record {
+  models = vain.models ∙ models ∙ first.models;
+  paid = paid_by conflicts p q r s first one two three looked paid vain;
+}
+  where
+    paid_by : (conflicts : ℕ) (p q r s : Post) → IsInVain 0 p q → IsOnward p q → IsOnward q r → IsOnward r s
+        → IsAskedTimes 0 q.solver.log r.solver.log → IsAffordable conflicts q → IsInVain conflicts r s
+        → IsAskedTimes 0 p.solver.log s.solver.log
+        ⊎ (learning_queries s.solver.log.entries + 2 * open_count p.loaded.items p.question.now.formula.vars ≤ 2 * p.question.now.formula.vars + 1)
+    paid_by zero p q r s first one two three looked paid vain =
+        let chosen : IsAskedTimes 0 p.solver.log r.solver.log =
+        asked_after 0 0 p.solver.log q.solver.log r.solver.log (learnt_longer p.solver.log q.solver.log one.log)
+        (learnt_longer q.solver.log r.solver.log two.log) first.asked looked in
+        inl (asked_after 0 0 p.solver.log r.solver.log s.solver.log
+        (omega (arith, learnt_longer p.solver.log q.solver.log one.log, learnt_longer q.solver.log r.solver.log two.log))
+        (learnt_longer r.solver.log s.solver.log three.log) chosen vain.asked)
+    paid_by (suc conflicts) p q r s first one two three looked paid vain =
+        let n : ℕ = p.question.now.formula.vars in
+        let vars : q.question.now.formula.vars ≡ n = ap (λ (a : About). a.formula.vars) one.question in
+        let there : learning_queries q.solver.log.entries + 1 + 2 * open_count p.loaded.items n ≤ 2 * n + 1 =
+        subst (λ (ws : List ℕ). learning_queries q.solver.log.entries + 1 + 2 * open_count ws n ≤ 2 * n + 1) one.copy
+        (subst (λ (m : ℕ). learning_queries q.solver.log.entries + 1 + 2 * open_count q.loaded.items m ≤ 2 * m + 1) vars paid) in
+        inr (omega (arith, there, vain.asked.most, looked.most))
+given_up conflicts p q r s (Err e) first one two three looked models paid vain = vain

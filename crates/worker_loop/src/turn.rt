@@ -8,7 +8,7 @@ ghost use Rattle.core_chunks.specs.Chunks.{IsBlockOf};
 ghost use Rattle.assumption_solver.specs.Answers.{FoundSays};
 ghost use Rattle.worker_loop.specs.Posts.{IsLater, HasStored};
 ghost use Rattle.worker_loop.specs.Steps.Held.{IsPost, state_of, IsBetweenTurns};
-ghost use Rattle.worker_loop.specs.Steps.Moves.{IsLoaded, IsOnward, IsAskedTimes, against_phase, IsUnmoved, KeepsSettled, IsBlockOfAll, IsInVain, IsAffordable};
+ghost use Rattle.worker_loop.specs.Steps.Moves.{IsLoaded, IsOnward, IsAskedTimes, against_phase, IsUnmoved, KeepsSettled, IsBlockOfAll, IsInVain, IsAffordable, IsGivenUp};
 ghost use Rattle.worker_loop.specs.Turns.{Goes};
 ghost use Rattle.worker_loop.specs.Steps.Following.{Follows, PostSays, IsCoreOf};
 ghost use Rattle.worker_loop.specs.Steps.Jumps.{Serves};
@@ -96,8 +96,7 @@ impl<'f, 'r> Post<'f, 'r> {
         }
         self.begin_behind(&block);
         self.hear(words)?;
-        let conflicts = self.easy_conflicts()?;
-        self.work_easily(words, block, chooser, conflicts)
+        self.work_easily(words, block, chooser)
     }
 
     /// How many conflicts a core query may have before it is given up: none where too few candidates are closed to pay for
@@ -188,13 +187,12 @@ impl<'f, 'r> Post<'f, 'r> {
         }
     }
 
-    /// As `work`, but that it gives the query up after so many conflicts.
+    /// As `work`, but that it gives the query up after a few conflicts.
     fn work_easily(
         &mut self,
         words: &Words,
         block: Vec<u32>,
         chooser: &mut Box<dyn Chooser>,
-        conflicts: u64,
     ) -> Result<Option<TurnEnd>, NoMemory>
         requires post { IsPost self.old }
         requires sits { Sits words.now self.old.seat }
@@ -208,12 +206,13 @@ impl<'f, 'r> Post<'f, 'r> {
         ensures asked { IsAskedTimes 2 self.old.solver.log self.new.solver.log }
         ensures stored { HasStored self.old.models self.new.models }
         ensures follows { IfOk result (λ tried. IfSome tried (λ end. Follows end self.new)) }
-        ensures vain { IfOk result (λ tried. IfNone tried (IsInVain conflicts self.old self.new)) }
+        ensures vain { IfOk result (λ tried. IfNone tried (IsGivenUp self.old self.new)) }
         ensures settled { OnOk result (KeepsSettled self.old self.new) }
     {
         match self.try_block(words, &block, chooser, 0)? {
             Some(end) => Ok(Some(end)),
             None => {
+                let conflicts = self.easy_conflicts()?;
                 let chosen = self.choose_block(block, chooser)?;
                 self.try_block(words, &chosen, chooser, conflicts)
             }

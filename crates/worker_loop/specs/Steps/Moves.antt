@@ -151,6 +151,12 @@ IsAffordable zero p = Unit {0}
 IsAffordable (suc conflicts) p =
     learning_queries p.solver.log.entries + 1 + 2 * open_count p.loaded.items p.question.now.formula.vars ≤ 2 * p.question.now.formula.vars + 1
 
+-- nothing is stored, and the queries that were given up learnt nothing, or are paid for
+pub record IsGivenUp (p q : Post) : Type 0 where
+  pub models : q.models ≡ p.models
+  pub paid : IsAskedTimes 0 p.solver.log q.solver.log
+      ⊎ (learning_queries q.solver.log.entries + 2 * open_count p.loaded.items p.question.now.formula.vars ≤ 2 * p.question.now.formula.vars + 1)
+
 -- nothing changes but the group of the next block
 pub record IsUnmoved (p q : Post) : Type 0 where
   pub question : q.question.now ≡ p.question.now

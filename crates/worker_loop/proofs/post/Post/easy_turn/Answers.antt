@@ -37,4 +37,4 @@ returns-clause-between g c =
     c.load_all.ensures.loaded c.load_all.ensures.copied c.load_all.ensures.post c.begin_behind.ensures.same c.begin_behind.ensures.post
     c.hear.ensures.hearing c.in_ok-hear.ensures.heard c.in_ok-hear.ensures.taken c.hear.ensures.asked c.hear.ensures.models c.hear.ensures.post
     c.work_easily.ensures.onward c.work_easily.ensures.asked c.work_easily.ensures.post c.in_ok-block.ensures some in
-    tried_between c.in_ok-conflicts.conflicts c.args.self.now c.load_all.new.self c.begin_behind.new.self c.hear.new.self c.work_easily.new.self c.work_easily.result turned c.in_ok-conflicts.ensures c.work_easily.ensures.follows c.work_easily.ensures.vain c.work_easily.ensures.settled
+    tried_between c.args.self.now c.load_all.new.self c.begin_behind.new.self c.hear.new.self c.work_easily.new.self c.work_easily.result turned c.work_easily.ensures.follows c.work_easily.ensures.vain c.work_easily.ensures.settled

@@ -1,12 +1,13 @@
-use Rattle.std.proofs.Common.{◌≡◌, ℕ, ◌+◌, ◌≤◌, ◌∙◌, subst, arith}
+use Rattle.std.proofs.Common.{◌∙◌, subst}
 use Rattle.std.specs.Prelude.{Option, IfNone}
 use Rattle.std.proofs.lemmas.Result.{on_ok_weaker}
 use Rattle.worker_loop.specs.declared.endings.TurnEnd.{TurnEnd}
-use Rattle.worker_loop.specs.Steps.Moves.{IsAskedTimes, IsInVain, queries_of}
+use Rattle.worker_loop.specs.Steps.Moves.{IsAskedTimes, IsInVain}
 use Rattle.worker_loop.proofs.Onward.{onward_trans}
-use Rattle.worker_loop.proofs.Queries.{asked_after, asked_more}
+use Rattle.worker_loop.proofs.Queries.{asked_after}
 use Rattle.worker_loop.proofs.Turning.{learnt_longer}
 use Rattle.worker_loop.proofs.Settling.{settled_onward}
+use Rattle.worker_loop.proofs.Turned.{given_up}
 use Rattle.worker_loop.proofs.post.Post.work_easily.Goals as goal
 
 pub returns-in_err-chosen-in-None-clause-onward : goal.returns-in_err-chosen-in-None-clause-onward
@@ -45,3 +46,12 @@ returns-in_ok-chosen-in-None-clause-settled g c =
     on_ok_weaker c.try_block-in-None.result (λ keeps settled. keeps
     (settled_onward p r c.choose_block.ensures.looking.post all (c.choose_block.ensures.looking.models ∙ vain.models) settled))
     c.try_block-in-None.ensures.settled
+
+pub returns-in_ok-chosen-in-None-clause-vain : goal.returns-in_ok-chosen-in-None-clause-vain
+returns-in_ok-chosen-in-None-clause-vain g c =
+    let p = c.args.self.now in
+    let q = c.try_block.new.self in
+    let vain : IsInVain 0 p q = subst (λ (tried : Option TurnEnd). IfNone tried (IsInVain 0 p q)) c.in-None.is c.in_ok-end.ensures.vain in
+    given_up c.in_ok-conflicts-in-None.conflicts p q c.choose_block.new.self c.try_block-in-None.new.self c.try_block-in-None.result vain
+    c.try_block.ensures.onward c.choose_block.ensures.looking.onward c.try_block-in-None.ensures.onward c.choose_block.ensures.looking.asked
+    c.choose_block.ensures.looking.models c.in_ok-conflicts-in-None.ensures c.try_block-in-None.ensures.vain
