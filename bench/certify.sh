@@ -8,6 +8,10 @@
 #
 # It runs the program of crates/backbone_main as its last proof built it.
 set -eu
+files=()
+for file in "$@"; do
+    files+=("$(realpath "$file")")
+done
 cd "$(dirname "$0")/.."
 
 program=crates/backbone_main/out/backbone_main
@@ -31,7 +35,7 @@ least() {
 }
 
 extract=(extract --workers 1 --budget 1099511627776)
-for file in "$@"; do
+for file in "${files[@]}"; do
     plain=$(least "${extract[@]}" "$file")
     named=$(least "${extract[@]}" --proof "$work/proof" --witness "$work/witness" "$file")
     cp "$work/answer" "$work/judged"
